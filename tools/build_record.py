@@ -69,5 +69,5 @@ class Build:
 
 # The proved program, the proved library for other languages, and the program that is built without a proof.
 PROVED = Build("pfair", "pfair", [PROGRAM])
-FACES = Build("faces", "pf_face", LIBRARIES, FACE_TEXTS)
+FACES = Build("faces", "pf_c_api", LIBRARIES, FACE_TEXTS)
 QUICK = Build("quick", "pfair", [TOP / "out" / "quick" / "pfair"], ["tools/quick_program.py"])

@@ -1,24 +1,24 @@
-"""include/pfair.h beside pf_face: the numbers, structs and calls of one are those of the other."""
+"""include/pfair.h beside pf_c_api: the numbers, structs and calls of one are those of the other."""
 import re
 
 from programs import TOP
 
 HEADER = TOP / "include" / "pfair.h"
-FACE = TOP / "crates" / "pf_face" / "src"
+FACE = TOP / "crates" / "pf_c_api" / "src"
 
 # Where the crates have the numbers of the header, and how the names begin there.
 NUMBERS = {
-    "pf_face/src/status.rt": r"pub const (\w+): u32 = (\d+);",
-    "pf_face/src/raw_event.rt": r"pub const (\w+): u64 = (\d+);",
-    "pf_face/src/raw_change.rt": r"pub const (\w+): u64 = (\d+);",
-    "pf_face/src/raw_look.rt": r"pub const (\w+): u64 = (\d+);",
-    "pf_face/src/text_kind.rt": r"pub const (\w+): u64 = (\d+);",
+    "pf_c_api/src/status.rt": r"pub const (\w+): u32 = (\d+);",
+    "pf_c_api/src/raw_event.rt": r"pub const (\w+): u64 = (\d+);",
+    "pf_c_api/src/raw_change.rt": r"pub const (\w+): u64 = (\d+);",
+    "pf_c_api/src/raw_look.rt": r"pub const (\w+): u64 = (\d+);",
+    "pf_c_api/src/text_kind.rt": r"pub const (\w+): u64 = (\d+);",
     "pf_scenario/specs/Refusals.antt": r"edit_fault_code \(?(\w+)(?: fault\))? = (\d+)",
     "pf_admit/specs/Refusals.antt": r"denial_code (\w+) = (\d+)",
     "pf_weight/specs/Refusals.antt": r"weight_fault_code (\w+) = (\d+)",
 }
 
-# What C calls the types of pf_face; the others by their names there, as pfair_bad_record for RawBadRecord.
+# What C calls the types of pf_c_api; the others by their names there, as pfair_bad_record for RawBadRecord.
 TYPES = {
     "u8": "uint8_t", "u32": "uint32_t", "u64": "uint64_t", "i64": "int64_t", "usize": "size_t", "bool": "bool",
     "Handle": "pfair_desk", "RawFigures": "pfair_task_figures", "RawSettings": "pfair_setup",
@@ -26,7 +26,7 @@ TYPES = {
 
 
 class Differs(Exception):
-    """What the header has and pf_face has not, or the other way."""
+    """What the header has and pf_c_api has not, or the other way."""
 
 
 def in_c(name):
@@ -43,7 +43,7 @@ def compare(here, there, what):
     """That both have the same of everything."""
     for name in sorted({*here, *there}):
         if here.get(name) != there.get(name):
-            raise Differs(f"{what} {name}: {here.get(name)} in pf_face, {there.get(name)} in the header")
+            raise Differs(f"{what} {name}: {here.get(name)} in pf_c_api, {there.get(name)} in the header")
 
 
 def numbers():
@@ -64,7 +64,7 @@ def version():
     text = re.search(r'^#define PFAIR_VERSION "(.*)"', header_code(), re.M)[1]
     parts = ".".join(re.findall(r"^#define PFAIR_VERSION_\w+ (\d+)", header_code(), re.M))
     if not told == text == parts:
-        raise Differs(f"the version is {told} in pf_face, {text} and {parts} in the header")
+        raise Differs(f"the version is {told} in pf_c_api, {text} and {parts} in the header")
 
 
 def structs():
@@ -100,6 +100,6 @@ def calls():
 
 
 def agrees():
-    """Raises where the header and pf_face differ."""
+    """Raises where the header and pf_c_api differ."""
     for part in (numbers, version, structs, calls):
         part()

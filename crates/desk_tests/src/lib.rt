@@ -5,6 +5,7 @@
 
 #[cfg(test)]
 mod asked;
+pub mod base;
 #[cfg(test)]
 mod case;
 #[cfg(test)]

@@ -7,8 +7,6 @@ use pf_chart::chart::chart_pieces;
 use pf_desk::command::Command::Step;
 use pf_desk::snapshot::Snapshot;
 use pf_diff::diff::diff_text;
-use pf_look::look::Look;
-use pf_names::titles::Titles;
 use pf_picture::picture::picture_pieces;
 use pf_report::denials::denials_csv;
 use pf_report::json::report_json;
@@ -17,6 +15,8 @@ use pf_report::misses::misses_csv;
 use pf_report::schedule::schedule_csv;
 use pf_report::script::script_text;
 use pf_text::pieces::gathered;
+use pf_vocabulary::look::look::Look;
+use pf_vocabulary::names::titles::Titles;
 use std::alloc::{AllocError, Global};
 use std::process::Abort;
 

@@ -9,7 +9,7 @@ use Rattle.std.specs.FinSet as fin
 use Rattle.std.specs.FinMap as finmap
 use Rattle.std.specs.FinMap.{nat_cmp-IsAntisymmetric, get-insert, get-remove, get-retain_keys, get-empty}
 use Rattle.pf_order.specs.Priority.{Priority, key_cmp}
-use Rattle.pf_table.specs.Grown.{Grown, value_of, size_of, with_value}
+use Rattle.pf_collections.specs.Table.Grown.{Grown, value_of, size_of, with_value}
 use Rattle.pf_heap.specs.Keys.{Keys, Heaps, list_of}
 use Rattle.pf_calendar.specs.declared.waiting_list.WaitingList.{WaitingList}
 use Rattle.pf_calendar.specs.Queues.{Queues, Waiting, list_at, with_waiting_list, later, IsQueued, TakesOut}

@@ -5,7 +5,7 @@ use Rattle.std.proofs.lemmas.Bool.{cases_lt, and_parts, lt-ltb}
 use Rattle.std.specs.Ordering.{nat_cmp, is_lt, is_eq, eq_by_cmp}
 use Rattle.std.specs.declared.cmp.Ordering.TheVariants.{Less, Equal, Greater}
 use Rattle.std.specs.FinMap.Entries.{put, where_key, find, is_sorted, below_all, by_order}
-use Rattle.pf_facts.proofs.Orders.{cmp_equal, cmp_greater}
+use Rattle.pf_lemmas.proofs.Orders.{cmp_equal, cmp_greater}
 
 cmp-less : (x y : ℕ) → x < y → nat_cmp x y ≡ Less
 cmp-less x y h = ap (λ b. cond b Less (cond (eqb x y) Equal Greater)) (lt-ltb x y h)

@@ -6,7 +6,7 @@ use Rattle.std.specs.FinMap as fin
 use Rattle.pf_heap.specs.Keys.{Keys, Heaps, list_of, all_lists, EachTaskOnce}
 use Rattle.pf_calendar.specs.declared.waiting_list.WaitingList.{WaitingList}
 use Rattle.pf_calendar.specs.Queues.{Waiting, list_at}
-use Rattle.pf_table.specs.Grown.{Grown, value_of, size_of}
+use Rattle.pf_collections.specs.Table.Grown.{Grown, value_of, size_of}
 use Rattle.pf_order.specs.Priority.{Priority}
 
 -- the lists of the entries, with their slots

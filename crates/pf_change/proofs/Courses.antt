@@ -5,11 +5,11 @@ use Rattle.std.proofs.lemmas.List.{at_drop_all, at_drop_more, take-append-drop}
 use Rattle.pf_desk.specs.declared.command.Command.{Command}
 use Rattle.pf_desk.specs.Desk.{Shown, AnswersAll, Seen, StandsForHistory}
 use Rattle.pf_script.specs.declared.record.LineTold.{LineTold}
-use Rattle.pf_carrying.specs.Asked.{commands_in, commands_of}
-use Rattle.pf_carrying.specs.Carrying.{Carrying, HasTaken, script_caller}
-use Rattle.pf_course.specs.Course.{ScriptCourse, course_at, course_behind, seen_at}
-use Rattle.pf_course.proofs.Courses.{answered_course, course_behind-append, seen_there}
-use Rattle.pf_options.specs.declared.diff_options.DiffOptions.{DiffOptions}
+use Rattle.pf_script_desk.specs.Asked.{commands_in, commands_of}
+use Rattle.pf_script_desk.specs.Carrying.{Carrying, HasTaken, script_caller}
+use Rattle.pf_replies.specs.Course.{ScriptCourse, course_at, course_behind, seen_at}
+use Rattle.pf_replies.proofs.Courses.{answered_course, course_behind-append, seen_there}
+use Rattle.pf_vocabulary.specs.declared.options.diff_options.DiffOptions.{DiffOptions}
 use Rattle.pf_change.specs.Change.{change_behind, course_to_be, lines_before, seen_behind}
 use Rattle.pf_change.specs.Difference.{DiffTold, difference}
 

@@ -1,8 +1,8 @@
 -- How the making of a text is stopped.
 use Rattle.std.specs.Prelude.{ℕ, Result}
-use Rattle.pf_fault.specs.declared.fault.Fault.{Fault}
-use Rattle.pf_fault.specs.declared.fault.Fault.TheVariants as why
-use Rattle.pf_fault.specs.Faults.{IsUnwritten}
+use Rattle.pf_vocabulary.specs.declared.fault.fault.Fault.{Fault}
+use Rattle.pf_vocabulary.specs.declared.fault.fault.Fault.TheVariants as why
+use Rattle.pf_vocabulary.specs.Fault.Faults.{IsUnwritten}
 use Rattle.pf_change.specs.Difference.{DiffTold}
 use Rattle.pf_change.specs.Made.{Stops}
 

@@ -1,8 +1,8 @@
 -- What a script changed, by what it tells.
 use Rattle.std.proofs.Common.{◌≡◌, ℕ, List, [], ◌∷◌, ◌++◌, Option, Some, None, Ok, Err, refl, ap, sym, ◌∙◌, append_assoc}
 use Rattle.std.proofs.lemmas.List.{append-nil}
-use Rattle.pf_fault.specs.declared.fault.Fault.{Fault}
-use Rattle.pf_fault.specs.declared.fault.Fault.TheVariants as why
+use Rattle.pf_vocabulary.specs.declared.fault.fault.Fault.{Fault}
+use Rattle.pf_vocabulary.specs.declared.fault.fault.Fault.TheVariants as why
 use Rattle.pf_script.specs.declared.fault.ScriptFault.{ScriptFault}
 use Rattle.pf_script.specs.declared.fault.ScriptFault.TheVariants as script
 use Rattle.pf_script.specs.declared.record.LineTold.{LineTold}
@@ -11,8 +11,8 @@ use Rattle.pf_script.specs.Answers.{ReadsLine}
 use Rattle.pf_script.specs.Faults.{fault_of_script}
 use Rattle.pf_script.specs.Opened.{Opens}
 use Rattle.pf_script.specs.Told.{FaultTold, LinesTold, Told, told}
-use Rattle.pf_options.specs.declared.diff_options.DiffOptions.{DiffOptions}
-use Rattle.pf_course.specs.Course.{fault_number, opening_course}
+use Rattle.pf_vocabulary.specs.declared.options.diff_options.DiffOptions.{DiffOptions}
+use Rattle.pf_replies.specs.Course.{fault_number, opening_course}
 use Rattle.pf_change.specs.Change.{change_behind, change_meaning, change_of, change_told, change_unless}
 use Rattle.pf_change.specs.Difference.{DiffTold}
 use Rattle.pf_change.specs.Made.{Stops, StopsReading}

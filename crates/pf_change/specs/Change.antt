@@ -3,11 +3,11 @@ use Rattle.std.specs.Prelude.{ℕ, ◌-◌, Option, None, Some, Result, Ok, Err,
 use Rattle.pf_desk.specs.Desk.{Seen}
 use Rattle.pf_script.specs.declared.record.LineTold.{LineTold}
 use Rattle.pf_script.specs.declared.record.ScriptSettings.{ScriptSettings}
-use Rattle.pf_carrying.specs.Asked.{commands_in}
+use Rattle.pf_script_desk.specs.Asked.{commands_in}
 use Rattle.pf_script.specs.Told.{FaultTold, Told, told}
-use Rattle.pf_carrying.specs.Carrying.{Carrying}
-use Rattle.pf_options.specs.declared.diff_options.DiffOptions.{DiffOptions}
-use Rattle.pf_course.specs.Course.{ScriptCourse, course_at, course_behind, opening_course, seen_at}
+use Rattle.pf_script_desk.specs.Carrying.{Carrying}
+use Rattle.pf_vocabulary.specs.declared.options.diff_options.DiffOptions.{DiffOptions}
+use Rattle.pf_replies.specs.Course.{ScriptCourse, course_at, course_behind, opening_course, seen_at}
 use Rattle.pf_change.specs.Difference.{DiffTold, difference}
 
 -- how far a desk is once the commands that wait are answered

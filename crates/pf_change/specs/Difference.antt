@@ -4,10 +4,10 @@ use Rattle.pf_desk.specs.Desk.{Seen}
 use Rattle.pf_diff.specs.Diff.{diff_text_of}
 use Rattle.pf_diff.specs.Differing.{is_different}
 use Rattle.pf_diff.specs.Summary.{summary_text}
-use Rattle.pf_fault.specs.declared.answer.Answer.{Answer}
-use Rattle.pf_fault.specs.declared.status.Status.{Status}
-use Rattle.pf_fault.specs.declared.status.Status.TheVariants.{BadScript, Done}
-use Rattle.pf_options.specs.declared.diff_options.DiffOptions.{DiffOptions}
+use Rattle.pf_vocabulary.specs.declared.fault.answer.Answer.{Answer}
+use Rattle.pf_vocabulary.specs.declared.fault.status.Status.{Status}
+use Rattle.pf_vocabulary.specs.declared.fault.status.Status.TheVariants.{BadScript, Done}
+use Rattle.pf_vocabulary.specs.declared.options.diff_options.DiffOptions.{DiffOptions}
 
 -- what each desk comes to, where that is asked for, and then what differs
 abbrev pub difference_text : Bool → Seen → Seen → List ℕ

@@ -1,8 +1,8 @@
 -- Worked examples of what a script's records changed.
 use Rattle.std.specs.Prelude.{◌≡◌, ℕ, Bool, true, false, List, [], ◌++◌, Option, Some, None, Ok, Err, codes}
-use Rattle.pf_fault.specs.declared.status.Status.{Status}
-use Rattle.pf_fault.specs.declared.status.Status.TheVariants.{BadScript, Done}
-use Rattle.pf_options.specs.declared.diff_options.DiffOptions.{DiffOptions}
+use Rattle.pf_vocabulary.specs.declared.fault.status.Status.{Status}
+use Rattle.pf_vocabulary.specs.declared.fault.status.Status.TheVariants.{BadScript, Done}
+use Rattle.pf_vocabulary.specs.declared.options.diff_options.DiffOptions.{DiffOptions}
 use Rattle.pf_change.specs.Change.{change_meaning}
 
 abbrev pub asked : Bool → Bool → DiffOptions

@@ -1,9 +1,9 @@
 -- How a text is made before it is written.
 use Rattle.std.specs.Prelude.{⊤, ℕ, ◌≡◌, Option, Some, Result, Err}
-use Rattle.pf_fault.specs.declared.fault.Fault.{Fault}
-use Rattle.pf_fault.specs.declared.fault.Fault.TheVariants as why
+use Rattle.pf_vocabulary.specs.declared.fault.fault.Fault.{Fault}
+use Rattle.pf_vocabulary.specs.declared.fault.fault.Fault.TheVariants as why
 use Rattle.pf_script.specs.Told.{FaultTold}
-use Rattle.pf_course.specs.Course.{fault_number}
+use Rattle.pf_replies.specs.Course.{fault_number}
 use Rattle.pf_change.specs.Difference.{DiffTold}
 
 -- this was not told: the first bad record stopped it, or running out of memory

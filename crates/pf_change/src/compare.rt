@@ -5,10 +5,10 @@ use pf_desk::snapshot::Snapshot;
 use pf_diff::diff::diff_text;
 use pf_diff::differing::is_different;
 use pf_diff::summary_text::summary_text;
-use pf_fault::answer::Answer;
-use pf_fault::ending::Ending;
-use pf_fault::status::Status;
-use pf_options::diff_options::DiffOptions;
+use pf_vocabulary::fault::answer::Answer;
+use pf_vocabulary::fault::ending::Ending;
+use pf_vocabulary::fault::status::Status;
+use pf_vocabulary::options::diff_options::DiffOptions;
 use std::alloc::{AllocError, Global};
 
 /// What differs between two desks, as four tables, each after its title, of what differs alone; where the options have a

@@ -1,7 +1,7 @@
 ghost use Rattle.std.specs.Prelude.{◌≡◌, ◌≤◌, [], length, take, Ok, IfOk, IfErr};
-ghost use Rattle.pf_fault.specs.Faults.{IsUnwritten};
+ghost use Rattle.pf_vocabulary.specs.Fault.Faults.{IsUnwritten};
 ghost use Rattle.pf_script.specs.Opened.{IsOpening};
-ghost use Rattle.pf_course.specs.Course.{opening_course};
+ghost use Rattle.pf_replies.specs.Course.{opening_course};
 ghost use Rattle.pf_change.specs.Change.{change_behind, change_meaning, lines_before};
 ghost use Rattle.pf_change.specs.Difference.{told_by};
 ghost use Rattle.pf_change.specs.Made.{Stops};
@@ -10,12 +10,12 @@ use crate::compare::compare;
 use crate::lines::read_lines;
 use crate::taking::show_behind;
 use csv::ByteRecord;
-use pf_carrying::carrying_desk::CarryingDesk;
-use pf_fault::answer::Answer;
-use pf_fault::fault::Fault;
-use pf_options::diff_options::DiffOptions;
 use pf_script::opened::OpenedScript;
 use pf_script::record::{LineTold, ScriptSettings};
+use pf_script_desk::carrying_desk::CarryingDesk;
+use pf_vocabulary::fault::answer::Answer;
+use pf_vocabulary::fault::fault::Fault;
+use pf_vocabulary::options::diff_options::DiffOptions;
 use std::alloc::{AllocError, Global};
 
 /// Carries out a script of these bytes, and answers what its records from `since` on changed, the last one where none is

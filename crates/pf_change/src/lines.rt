@@ -2,9 +2,9 @@ ghost use Rattle.std.specs.Prelude.{◌≡◌, None, IfOk, IfErr};
 ghost use Rattle.pf_change.specs.Made.{StopsReading};
 
 use csv::ByteRecord;
-use pf_fault::fault::Fault;
 use pf_script::line_reader::LineReader;
 use pf_script::record::LineTold;
+use pf_vocabulary::fault::fault::Fault;
 use std::alloc::Global;
 
 /// All lines after the settings. Each record is read into `row`.

@@ -1,11 +1,11 @@
 ghost use Rattle.std.specs.Prelude.{◌≡◌, IfOk, OnOk};
-ghost use Rattle.pf_course.specs.Course.{course_behind, seen_at};
-ghost use Rattle.pf_carrying.specs.Asked.{commands_in};
+ghost use Rattle.pf_replies.specs.Course.{course_behind, seen_at};
+ghost use Rattle.pf_script_desk.specs.Asked.{commands_in};
 ghost use Rattle.pf_change.specs.Change.{course_to_be};
 
-use pf_carrying::carrying_desk::CarryingDesk;
 use pf_desk::snapshot::Snapshot;
 use pf_script::record::LineTold;
+use pf_script_desk::carrying_desk::CarryingDesk;
 use std::alloc::AllocError;
 
 /// Carries lines out on a desk, and gives what the desk then shows.

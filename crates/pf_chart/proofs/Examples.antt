@@ -11,7 +11,7 @@ use Rattle.pf_run.specs.Record.{done, in_force}
 use Rattle.pf_run.specs.Inside.{inside, load_of, count_of, shift_of, member_of, ready}
 use Rattle.pf_run.specs.Computed.{course_of}
 use Rattle.pf_run.specs.RunRows.{rows_in, denials_in}
-use Rattle.pf_names.specs.Titled.{number_label}
+use Rattle.pf_vocabulary.specs.Names.Titled.{number_label}
 use Rattle.pf_tally.specs.Clock.{clock_of}
 use Rattle.pf_courses.specs.Course.{tracks_of}
 use Rattle.pf_courses.specs.Listing.{listings_of}

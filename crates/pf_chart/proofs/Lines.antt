@@ -1,7 +1,7 @@
 -- A line without the blanks at its end.
 use Rattle.std.proofs.Common.{◌≡◌, ◌≢◌, ℕ, zero, suc, ◌-◌, ◌<◌, ◌≤◌, ◌==◌, List, [], ◌∷◌, ◌++◌, length, take, get_or, refl, sym, ap, ◌∙◌, append_assoc, arith}
 use Rattle.std.proofs.lemmas.Bool.{cond-false, ne_eqb}
-use Rattle.pf_facts.proofs.Lists.{take_last}
+use Rattle.pf_lemmas.proofs.Lists.{take_last}
 use Rattle.pf_chart.specs.Chart.{with_first, trimmed}
 
 blank_behind : (xs : List ℕ) → trimmed (xs ++ 32 ∷ []) ≡ trimmed xs

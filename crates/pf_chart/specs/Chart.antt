@@ -6,9 +6,9 @@ use Rattle.std.specs.List.{flat_map, list_all, list_any, range_with_len, slice_g
 use Rattle.std.specs.Option.{option_map_or, unwrap_or}
 use Rattle.pf_order.specs.declared.pick.Pick.{Pick}
 use Rattle.pf_place.specs.Occupancy.{sitter}
-use Rattle.pf_names.specs.Slots.{slot_text}
-use Rattle.pf_names.specs.declared.slot_length.SlotLength.{SlotLength}
-use Rattle.pf_names.specs.declared.titles.Titles.{Titles}
+use Rattle.pf_vocabulary.specs.Names.Slots.{slot_text}
+use Rattle.pf_vocabulary.specs.declared.names.slot_length.SlotLength.{SlotLength}
+use Rattle.pf_vocabulary.specs.declared.names.titles.Titles.{Titles}
 use Rattle.pf_scenario.specs.System.{System}
 use Rattle.pf_desk.specs.Desk.{Seen}
 use Rattle.pf_courses.specs.Course.{Track}
@@ -19,7 +19,7 @@ use Rattle.pf_chart.specs.declared.track_row.TrackRow.TheVariants.{Runs, Windows
 use Rattle.pf_chart.specs.Labels.{Labels, block_length, labels_of, task_label}
 use Rattle.pf_chart.specs.Symbols.{blank, left_out, rank_symbol}
 use Rattle.pf_chart.specs.Shown.{shown_of}
-use Rattle.pf_tasks.specs.declared.task_range.TaskRange.{TaskRange}
+use Rattle.pf_vocabulary.specs.declared.tasks.task_range.TaskRange.{TaskRange}
 
 -- a line without the blanks at its end
 abbrev pub with_first : ℕ → List ℕ → List ℕ

@@ -5,7 +5,7 @@ use Rattle.pf_scenario.specs.declared.event.Event.TheVariants.{Join, Leave, Dela
 use Rattle.pf_run.specs.RunRows.{rows_in, denials_in}
 use Rattle.pf_run.specs.Examples.{plan_with}
 use Rattle.pf_desk.specs.Desk.{Seen}
-use Rattle.pf_names.specs.Titled.{untitled}
+use Rattle.pf_vocabulary.specs.Names.Titled.{untitled}
 use Rattle.pf_chart.specs.Chart.{chart_text_of, legend_text, task_chart_text_of, task_legend_text}
 
 -- what is seen of the scenario after n slots and so many entries

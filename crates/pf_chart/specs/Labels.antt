@@ -1,8 +1,8 @@
 -- The labels of a chart's lines.
 use Rattle.std.specs.Prelude.{ℕ, ◌+◌, max, nat_le, if◌then◌else◌, List, ◌∷◌, ◌++◌, codes, length}
 use Rattle.std.specs.List.{fold}
-use Rattle.pf_names.specs.Titled.{label_of}
-use Rattle.pf_names.specs.declared.named.Named.{Named}
+use Rattle.pf_vocabulary.specs.Names.Titled.{label_of}
+use Rattle.pf_vocabulary.specs.declared.names.named.Named.{Named}
 use Rattle.pf_courses.specs.Listing.{Listing}
 use Rattle.pf_chart.specs.Symbols.{rank_symbol}
 

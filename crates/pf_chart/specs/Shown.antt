@@ -1,7 +1,7 @@
 -- Which of the listed tasks a chart shows.
 use Rattle.std.specs.Prelude.{List, filter}
-use Rattle.pf_tasks.specs.Listed.{is_listed}
-use Rattle.pf_tasks.specs.declared.task_range.TaskRange.{TaskRange}
+use Rattle.pf_vocabulary.specs.Tasks.Listed.{is_listed}
+use Rattle.pf_vocabulary.specs.declared.tasks.task_range.TaskRange.{TaskRange}
 use Rattle.pf_courses.specs.Listing.{Listing}
 
 -- those of these ranges

@@ -10,9 +10,9 @@ use pf_courses::counts::counts;
 use pf_courses::listed::Listed;
 use pf_courses::listings::listings;
 use pf_desk::snapshot::Snapshot;
-use pf_names::titles::Titles;
-use pf_tasks::task_list::TaskList;
 use pf_text::pieces::{Chain, Pieces, Whole};
+use pf_vocabulary::names::titles::Titles;
+use pf_vocabulary::tasks::task_list::TaskList;
 use std::alloc::{AllocError, Global};
 use std::marker::Model;
 

@@ -2,8 +2,8 @@ ghost use Rattle.std.specs.Prelude.{◌≡◌, ◌++◌, codes, IfOk, OnOk};
 ghost use Rattle.std.specs.Fmt.{decimal};
 ghost use Rattle.pf_chart.specs.Chart.{count_text, head_with, legend_text, length_text, range_text, settings_text, settings_with, signs_text, task_head_with, task_legend_text};
 
-use pf_names::slot_length::SlotLength;
 use pf_scenario::settings::Settings;
+use pf_vocabulary::names::slot_length::SlotLength;
 use std::alloc::{AllocError, Global};
 
 /// What the signs of the processors' lines mean.

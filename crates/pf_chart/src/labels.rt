@@ -3,8 +3,8 @@ ghost use Rattle.pf_chart.specs.Labels.{places_for};
 
 use crate::symbols::rank_symbol;
 use pf_courses::listed::Listed;
-use pf_names::names::Names;
-use pf_names::titles::label_of;
+use pf_vocabulary::names::names::Names;
+use pf_vocabulary::names::titles::label_of;
 use std::alloc::{AllocError, Global};
 use std::marker::Model;
 

@@ -2,15 +2,15 @@
 use Rattle.std.proofs.Common.{◌≡◌, ◌≤◌, ◌+◌, ℕ, Bool, true, false, List, [], ◌∷◌, length, map, Option, None, Some, Result, Ok, Err, refl, arith}
 use Rattle.std.specs.Prelude.{nat_le}
 use Rattle.std.proofs.lemmas.Bool.Decides.{nat_tests}
-use Rattle.pf_plan_check.specs.Checked.{bad_if, faults, faults_at_end, faults_from, faults_next, faults_of, with_fault}
-use Rattle.pf_plan_check.specs.Reports.{FaultShown}
-use Rattle.pf_rows.specs.Rows.{Row, Table}
-use Rattle.pf_plan.specs.declared.fault.RecordFault.{RecordFault}
-use Rattle.pf_plan.specs.Heading.{heading_fault}
-use Rattle.pf_plan.specs.declared.said.Said.{Said}
-use Rattle.pf_plan.specs.declared.state.Progress.{Progress}
-use Rattle.pf_plan.specs.Parsing.{end_fault, said_at}
-use Rattle.pf_plan.specs.Progress.{at_heading, progress_after}
+use Rattle.pf_script.specs.PlanCheck.Checked.{bad_if, faults, faults_at_end, faults_from, faults_next, faults_of, with_fault}
+use Rattle.pf_script.specs.PlanCheck.Reports.{FaultShown}
+use Rattle.pf_text.specs.Rows.Rows.{Row, Table}
+use Rattle.pf_script.specs.declared.plan.fault.RecordFault.{RecordFault}
+use Rattle.pf_script.specs.Plan.Heading.{heading_fault}
+use Rattle.pf_script.specs.declared.plan.said.Said.{Said}
+use Rattle.pf_script.specs.declared.plan.state.Progress.{Progress}
+use Rattle.pf_script.specs.Plan.Parsing.{end_fault, said_at}
+use Rattle.pf_script.specs.Plan.Progress.{at_heading, progress_after}
 use Rattle.pf_check_run.specs.Faults.{plan_shown}
 use Rattle.pf_check_run.proofs.Finding.{AreOf, behind_all}
 

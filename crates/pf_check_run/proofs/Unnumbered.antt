@@ -3,39 +3,39 @@ use Rattle.std.proofs.Common.{◌≡◌, ◌∙◌, ◌+◌, ◌++◌, ℕ, Bool
 use Rattle.std.specs.Prelude.{⊤, IfErr, codes, if◌then◌else◌, is_some, not, ok_or}
 use Rattle.std.specs.Str.{bytes_eq}
 use Rattle.std.proofs.lemmas.List.{map-append}
-use Rattle.pf_carry.specs.Carried.{Stops}
-use Rattle.pf_plan_check.specs.Checked.{bad_if, fault_shown, faults, faults_at_end, faults_from, faults_next, faults_of, with_fault}
-use Rattle.pf_plan_check.specs.Reports.{FaultShown}
-use Rattle.pf_fault.specs.declared.fault.Fault.{Fault}
-use Rattle.pf_fault.specs.declared.fault.Fault.TheVariants as why
+use Rattle.pf_script_run.specs.Carried.{Stops}
+use Rattle.pf_script.specs.PlanCheck.Checked.{bad_if, fault_shown, faults, faults_at_end, faults_from, faults_next, faults_of, with_fault}
+use Rattle.pf_script.specs.PlanCheck.Reports.{FaultShown}
+use Rattle.pf_vocabulary.specs.declared.fault.fault.Fault.{Fault}
+use Rattle.pf_vocabulary.specs.declared.fault.fault.Fault.TheVariants as why
 use Rattle.pf_check_run.specs.declared.found.Found.{Found}
 use Rattle.pf_check_run.specs.Answers.{Belongs, IsPlanStopped}
 use Rattle.pf_check_run.specs.Faults.{plan_shown}
 use Rattle.pf_check_run.specs.Found.{Finds, is_clean, is_empty}
-use Rattle.pf_plain.specs.declared.origin.Origin.{Origin}
-use Rattle.pf_plain.specs.declared.plain.PlainScript.{PlainScript}
-use Rattle.pf_plain.specs.Plain.{Course, Plain, course_behind, ended, given, plain, plain_behind, plain_from, plain_next, plain_of, start, with_heading}
-use Rattle.pf_retold.specs.Retold.{IsSameFault}
-use Rattle.pf_retold.proofs.Whole.{scripts_are_retold}
-use Rattle.pf_rows.specs.Rows.{Row, rows}
+use Rattle.pf_plain_script.specs.declared.origin.Origin.{Origin}
+use Rattle.pf_plain_script.specs.declared.plain.PlainScript.{PlainScript}
+use Rattle.pf_plain_script.specs.Plain.{Course, Plain, course_behind, ended, given, plain, plain_behind, plain_from, plain_next, plain_of, start, with_heading}
+use Rattle.pf_version_laws.specs.Retold.{IsSameFault}
+use Rattle.pf_version_laws.proofs.Whole.{scripts_are_retold}
+use Rattle.pf_text.specs.Rows.Rows.{Row, rows}
 use Rattle.pf_script.specs.Fields.{field, is_word}
 use Rattle.pf_script.specs.Told.{FaultTold, told}
 use Rattle.pf_script.specs.declared.line.Line.{Line}
 use Rattle.pf_script.specs.declared.line.Line.TheVariants.{Edit}
 use Rattle.pf_scenario.specs.declared.change.Change.TheVariants.{Alter, Insert, Strike}
-use Rattle.pf_names.specs.Text.{is_letter_first, is_text}
+use Rattle.pf_vocabulary.specs.Names.Text.{is_letter_first, is_text}
 use Rattle.pf_text.specs.Page.{table_text}
-use Rattle.pf_plan.specs.declared.fault.Reason.{Reason}
-use Rattle.pf_plan.specs.declared.fault.Reason.TheVariants.{Fields, LabelTaken, LabelUnknown, NoChange, NoEvent, NoLabel, NoNumber, NoRecord, NoSettings}
-use Rattle.pf_plan.specs.declared.fault.RecordFault.{RecordFault}
-use Rattle.pf_plan.specs.declared.labels.Labelled.{Labelled}
-use Rattle.pf_plan.specs.declared.said.Said.{Said}
-use Rattle.pf_plan.specs.declared.said.Said.TheVariants.{Settings, Slot, Name, Asks}
-use Rattle.pf_plan.specs.declared.state.Progress.{Progress}
-use Rattle.pf_plan.specs.Heading.{heading_fault, is_plan_heading}
-use Rattle.pf_plan.specs.Labels.{number_of_label}
-use Rattle.pf_plan.specs.Parsing.{◌>>=◌, alter_at, asked, edit_at, event_at, fault_at, id_at, label_at, labelled_at, name_at, number_or, of_length, opening_at, record_at, said_at, slot_at, steps_at, strike_at}
-use Rattle.pf_plan.specs.Progress.{at_heading, progress_after, with_label}
+use Rattle.pf_script.specs.declared.plan.fault.Reason.{Reason}
+use Rattle.pf_script.specs.declared.plan.fault.Reason.TheVariants.{Fields, LabelTaken, LabelUnknown, NoChange, NoEvent, NoLabel, NoNumber, NoRecord, NoSettings}
+use Rattle.pf_script.specs.declared.plan.fault.RecordFault.{RecordFault}
+use Rattle.pf_script.specs.declared.plan.labels.Labelled.{Labelled}
+use Rattle.pf_script.specs.declared.plan.said.Said.{Said}
+use Rattle.pf_script.specs.declared.plan.said.Said.TheVariants.{Settings, Slot, Name, Asks}
+use Rattle.pf_script.specs.declared.plan.state.Progress.{Progress}
+use Rattle.pf_script.specs.Plan.Heading.{heading_fault, is_plan_heading}
+use Rattle.pf_script.specs.Plan.Labels.{number_of_label}
+use Rattle.pf_script.specs.Plan.Parsing.{◌>>=◌, alter_at, asked, edit_at, event_at, fault_at, id_at, label_at, labelled_at, name_at, number_or, of_length, opening_at, record_at, said_at, slot_at, steps_at, strike_at}
+use Rattle.pf_script.specs.Plan.Progress.{at_heading, progress_after, with_label}
 
 -- the same but for the numbers of labels
 pub record AreAlike (p q : Progress) : Type 0 where

@@ -1,22 +1,22 @@
 -- What is answered to a script that is checked and carried out.
 use Rattle.std.specs.Prelude.{ℕ, ◌≡◌, ◌<◌, ◌⊎◌, false, ◌^◌, ◌-◌, Option, None, Some, List, [], ◌∷◌, ◌++◌, codes, length, map}
 use Rattle.std.specs.Fmt.{decimal}
-use Rattle.pf_plan_check.specs.Checked.{faults as plan_faults}
+use Rattle.pf_script.specs.PlanCheck.Checked.{faults as plan_faults}
 use Rattle.pf_desk.specs.Desk.{Seen}
-use Rattle.pf_fault.specs.Answers.{IsQuiet}
-use Rattle.pf_fault.specs.declared.answer.Answer.{Answer}
-use Rattle.pf_fault.specs.declared.fault.Fault.{Fault}
-use Rattle.pf_fault.specs.declared.fault.Fault.TheVariants as why
+use Rattle.pf_vocabulary.specs.Fault.Answers.{IsQuiet}
+use Rattle.pf_vocabulary.specs.declared.fault.answer.Answer.{Answer}
+use Rattle.pf_vocabulary.specs.declared.fault.fault.Fault.{Fault}
+use Rattle.pf_vocabulary.specs.declared.fault.fault.Fault.TheVariants as why
 use Rattle.pf_stream.specs.Reading.{longest_script}
-use Rattle.pf_fault.specs.declared.status.Status.{Status}
-use Rattle.pf_fault.specs.declared.status.Status.TheVariants.{BadScript, Done}
+use Rattle.pf_vocabulary.specs.declared.fault.status.Status.{Status}
+use Rattle.pf_vocabulary.specs.declared.fault.status.Status.TheVariants.{BadScript, Done}
 use Rattle.pf_fit_command.specs.Fit.{IsSeenBehind}
-use Rattle.pf_names.specs.declared.named.Named.{Named}
-use Rattle.pf_plain.specs.Plain.{IsPlain, Plain, plain}
-use Rattle.pf_plain.specs.declared.plain.PlainScript.{PlainScript}
-use Rattle.pf_plain.specs.declared.origin.Origin.{Origin}
-use Rattle.pf_fit_command.specs.Recount.{Recounted, recounted}
-use Rattle.pf_rows.specs.Rows.{rows}
+use Rattle.pf_vocabulary.specs.declared.names.named.Named.{Named}
+use Rattle.pf_plain_script.specs.Plain.{IsPlain, Plain, plain}
+use Rattle.pf_plain_script.specs.declared.plain.PlainScript.{PlainScript}
+use Rattle.pf_plain_script.specs.declared.origin.Origin.{Origin}
+use Rattle.pf_script_results.specs.Recount.{Recounted, recounted}
+use Rattle.pf_text.specs.Rows.Rows.{rows}
 use Rattle.pf_run.specs.Computed.{run_of}
 use Rattle.pf_run_notes.specs.Notes.{lists_text}
 use Rattle.pf_script.specs.Script.{script_records}

@@ -2,15 +2,15 @@
 use Rattle.std.specs.Prelude.{ℕ, ◌+◌, ◌==◌, min, nat_le, not, Bool, true, false, if◌then◌else◌, List, [], ◌∷◌, ◌++◌, codes, count_by, filter}
 use Rattle.std.specs.List.{flat_map}
 use Rattle.std.specs.Fmt.{decimal}
-use Rattle.pf_plan_check.specs.Reports.{FaultShown}
-use Rattle.pf_fault_notes.specs.BadRecords.{fault_line, plan_fault_line}
+use Rattle.pf_script.specs.PlanCheck.Reports.{FaultShown}
+use Rattle.pf_script.specs.FaultNotes.BadRecords.{fault_line, plan_fault_line}
 use Rattle.pf_run_notes.specs.Places.{place_text}
 use Rattle.pf_run_notes.specs.declared.place.Place.{Place}
 use Rattle.pf_script.specs.declared.fault.Reason.{Reason}
 use Rattle.pf_script.specs.declared.fault.Reason.TheVariants.{NoSettings}
 use Rattle.pf_script.specs.Told.{FaultTold}
-use Rattle.pf_plan.specs.declared.fault.Reason.{Reason as PlanReason}
-use Rattle.pf_plan.specs.declared.fault.Reason.TheVariants as why
+use Rattle.pf_script.specs.declared.plan.fault.Reason.{Reason as PlanReason}
+use Rattle.pf_script.specs.declared.plan.fault.Reason.TheVariants as why
 
 -- a fault: where it lies, whether settings are lacking there, and its line
 pub record FaultLine : Type 0 where

@@ -1,6 +1,6 @@
 -- What a check found so far.
 use Rattle.std.specs.Prelude.{ℕ, ◌≡◌, ◌≤◌, ◌<◌, ◌+◌, ◌-◌, ◌^◌, ◌==◌, Bool, true, false, List, [], ◌∷◌, ◌++◌}
-use Rattle.pf_fault.specs.declared.answer.Answer.{Answer}
+use Rattle.pf_vocabulary.specs.declared.fault.answer.Answer.{Answer}
 use Rattle.pf_check_run.specs.declared.found.Found.{Found}
 use Rattle.pf_check_run.specs.Faults.{FaultLine, count_lines, fault_lines, not_run_line, told_of}
 use Rattle.pf_check_run.specs.Lines.{behind, count_of, no_lines, text_of}

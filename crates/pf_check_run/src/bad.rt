@@ -1,8 +1,8 @@
 ghost use Rattle.std.specs.Prelude.{◌≡◌};
 ghost use Rattle.pf_check_run.specs.Faults.{lacks_settings, plan_lacks_settings};
 
-use pf_plan::fault::Reason as PlanReason;
 use pf_script::fault::Reason;
+use pf_script::plan::fault::Reason as PlanReason;
 
 /// Whether a record is bad since the settings have not come yet.
 pub(crate) fn is_lacking(reason: Reason) -> bool

@@ -1,24 +1,24 @@
 ghost use Rattle.std.specs.Prelude.{false, ◌≡◌, ◌++◌, Some, IfOk, IfErr, OnOk};
 ghost use Rattle.std.specs.Option.{option_map};
-ghost use Rattle.pf_carry.specs.Carried.{IsOf, Stops};
-ghost use Rattle.pf_fault.specs.Faults.{IsUnwritten};
-ghost use Rattle.pf_fit_command.specs.Recount.{recounted};
+ghost use Rattle.pf_script_run.specs.Carried.{IsOf, Stops};
+ghost use Rattle.pf_vocabulary.specs.Fault.Faults.{IsUnwritten};
+ghost use Rattle.pf_script_results.specs.Recount.{recounted};
 ghost use Rattle.pf_script.specs.Told.{told};
 ghost use Rattle.pf_check_run.specs.Answers.{Carries, counted_text, lists_of, most_lines, status_of_lines, totals_line, totals_of};
 
-use pf_carry::carry::carry;
 use pf_desk::desk::Desk;
 use pf_desk::snapshot::Snapshot;
-use pf_fault::answer::Answer;
-use pf_fault::ending::Ending;
-use pf_fault::fault::Fault;
-use pf_fault::status::Status;
-use pf_names::names::Names;
-use pf_plain::origin::Origin;
-use pf_recount::recount::Recount;
-use pf_recount::recounting::recount;
+use pf_plain_script::origin::Origin;
 use pf_run_notes::behind_run::lists;
+use pf_script_results::recount::Recount;
+use pf_script_results::recounting::recount;
+use pf_script_run::carry::carry;
 use pf_text::numbers::push_number;
+use pf_vocabulary::fault::answer::Answer;
+use pf_vocabulary::fault::ending::Ending;
+use pf_vocabulary::fault::fault::Fault;
+use pf_vocabulary::fault::status::Status;
+use pf_vocabulary::names::names::Names;
 use std::alloc::{AllocError, Global};
 
 /// Carries a script of version 1 or 2 of this file out, which has so many records, and tells what was refused, denied and missed.

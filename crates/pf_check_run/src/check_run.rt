@@ -1,17 +1,17 @@
 ghost use Rattle.std.specs.Prelude.{◌≡◌, ◌≤◌, [], length, IfOk, IfErr};
-ghost use Rattle.pf_fault.specs.declared.fault.Fault.TheVariants as why;
-ghost use Rattle.pf_fault.specs.Faults.{IsUnwritten};
-ghost use Rattle.pf_plain.specs.Plain.{IsPlain, Plain};
+ghost use Rattle.pf_vocabulary.specs.declared.fault.fault.Fault.TheVariants as why;
+ghost use Rattle.pf_vocabulary.specs.Fault.Faults.{IsUnwritten};
+ghost use Rattle.pf_plain_script.specs.Plain.{IsPlain, Plain};
 ghost use Rattle.pf_stream.specs.Reading.{longest_script};
 ghost use Rattle.pf_check_run.specs.Answers.{Belongs, ChecksRun, ChecksPlanRun, IsPlanStopped};
 
 use crate::carried::carried;
 use crate::faults::{plain_faults, plan_faults};
-use pf_fault::answer::Answer;
-use pf_fault::fault::Fault;
-use pf_names::names::Names;
-use pf_plain::plain::PlainScript;
+use pf_plain_script::plain::PlainScript;
 use pf_stream::reading::LONGEST_SCRIPT;
+use pf_vocabulary::fault::answer::Answer;
+use pf_vocabulary::fault::fault::Fault;
+use pf_vocabulary::names::names::Names;
 use std::alloc::Global;
 
 /// What a script of version 1 or 2 of this file comes to: a line for each fault, as a check tells it, but one alone for all records

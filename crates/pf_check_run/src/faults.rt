@@ -1,7 +1,7 @@
 ghost use Rattle.std.specs.Prelude.{◌≡◌, ◌≤◌, ◌<◌, ◌-◌, ◌^◌, length, map, IfOk, OnOk};
-ghost use Rattle.pf_plan_check.specs.Checked.{faults as plan_faults};
-ghost use Rattle.pf_plan_check.specs.Reports.{shown as plan_fault};
-ghost use Rattle.pf_rows.specs.Rows.{rows};
+ghost use Rattle.pf_script.specs.PlanCheck.Checked.{faults as plan_faults};
+ghost use Rattle.pf_script.specs.PlanCheck.Reports.{shown as plan_fault};
+ghost use Rattle.pf_text.specs.Rows.Rows.{rows};
 ghost use Rattle.pf_script.specs.Script.{script_records};
 ghost use Rattle.pf_script.specs.Told.{faults};
 ghost use Rattle.pf_stream.specs.Reading.{longest_script};
@@ -13,11 +13,11 @@ use crate::bad::is_plan_lacking;
 use crate::fault_lines::FaultLines;
 use crate::found::{Found, place_of};
 use csv::ByteRecord;
-use pf_fault_notes::bad_record::push_plan_fault;
-use pf_plan::fault::BadRecord as PlanBadRecord;
-use pf_plan_check::plan_faults::PlanFaults;
 use pf_script::fault::ScriptFault;
+use pf_script::fault_notes::bad_record::push_plan_fault;
 use pf_script::fields::Fields;
+use pf_script::plan::fault::BadRecord as PlanBadRecord;
+use pf_script::plan_check::plan_faults::PlanFaults;
 use pf_script::reader::ScriptReader;
 use std::alloc::{AllocError, Global};
 

@@ -3,14 +3,14 @@ ghost use Rattle.pf_check_run.specs.Faults.{not_run_line};
 
 use crate::bad::is_lacking;
 use crate::fault_lines::FaultLines;
-use pf_fault::answer::Answer;
-use pf_fault::ending::Ending;
-use pf_fault::status::Status;
-use pf_fault_notes::bad_record::push_fault;
 use pf_run_notes::place::Place;
 use pf_script::fault::BadRecord;
+use pf_script::fault_notes::bad_record::push_fault;
 use pf_script::fields::Fields;
 use pf_text::numbers::push_number;
+use pf_vocabulary::fault::answer::Answer;
+use pf_vocabulary::fault::ending::Ending;
+use pf_vocabulary::fault::status::Status;
 use std::alloc::{AllocError, Global};
 
 /// What a check found so far.
@@ -45,9 +45,9 @@ fn push_not_run(text: &mut Vec<u8>, records: u64, lines: u64) -> Result<(), Allo
 
 impl Found {
     ghost use Rattle.std.specs.Prelude.{◌≡◌, ◌+◌, ◌<◌, ◌-◌, ◌^◌, IfOk, OnOk};
-    ghost use Rattle.pf_check.specs.Reports.{fault_shown};
-    ghost use Rattle.pf_fault.specs.Answers.{IsQuiet};
-    ghost use Rattle.pf_fault.specs.declared.status.Status.TheVariants.{BadScript};
+    ghost use Rattle.pf_script.specs.Check.Reports.{fault_shown};
+    ghost use Rattle.pf_vocabulary.specs.Fault.Answers.{IsQuiet};
+    ghost use Rattle.pf_vocabulary.specs.declared.fault.status.Status.TheVariants.{BadScript};
     ghost use Rattle.pf_check_run.specs.Faults.{shown};
     ghost use Rattle.pf_check_run.specs.Found.{IsFresh, NotRunBy, Takes, is_clean};
 

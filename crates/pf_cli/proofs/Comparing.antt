@@ -4,11 +4,11 @@ use Rattle.std.proofs.KnownBytes.{Keeps-refl}
 use Rattle.std.specs.Prelude.{Bool, Vec}
 use Rattle.std.specs.declared.alloc.Global.{Global}
 use Rattle.pf_desk.specs.Desk.{Seen}
-use Rattle.pf_fault.specs.declared.ending.Ending.{Ending}
-use Rattle.pf_fault.specs.declared.fault.Fault.{Fault}
-use Rattle.pf_fault.specs.declared.fault.Fault.TheVariants as why
-use Rattle.pf_fault.specs.Faults.{CountsWrites, IsUnwritten}
-use Rattle.pf_words.specs.Diffs.{PairNames}
+use Rattle.pf_vocabulary.specs.declared.fault.ending.Ending.{Ending}
+use Rattle.pf_vocabulary.specs.declared.fault.fault.Fault.{Fault}
+use Rattle.pf_vocabulary.specs.declared.fault.fault.Fault.TheVariants as why
+use Rattle.pf_vocabulary.specs.Fault.Faults.{CountsWrites, IsUnwritten}
+use Rattle.pf_arguments.specs.Diffs.{PairNames}
 use Rattle.pf_cli.specs.Compared.{Shows}
 use Rattle.pf_cli.specs.Status.{ComparesBehind, ComparesScripts, Streams, seen_streams}
 use Rattle.pf_cli.specs.declared.noted.Noted.{Noted}

@@ -4,10 +4,10 @@ use Rattle.std.specs.Prelude.{⊤, IfErr, IfOk, IfSome}
 use Rattle.pf_board.specs.declared.quantum.Quantum.{Quantum}
 use Rattle.pf_drill.specs.declared.worker.Worker.{Worker}
 use Rattle.pf_drill.specs.Drilled.{Drills}
-use Rattle.pf_fault.specs.declared.answer.Answer.{Answer}
-use Rattle.pf_fault.specs.declared.fault.Fault.{Fault}
-use Rattle.pf_plain.specs.declared.plain.PlainScript.{PlainScript}
-use Rattle.pf_plain.specs.Plain.{IsPlain, MakesPlain, Plain, plain}
+use Rattle.pf_vocabulary.specs.declared.fault.answer.Answer.{Answer}
+use Rattle.pf_vocabulary.specs.declared.fault.fault.Fault.{Fault}
+use Rattle.pf_plain_script.specs.declared.plain.PlainScript.{PlainScript}
+use Rattle.pf_plain_script.specs.Plain.{IsPlain, MakesPlain, Plain, plain}
 use Rattle.pf_stream.specs.Reading.{longest_script}
 use Rattle.pf_stream.specs.Written.{TookFront}
 use Rattle.pf_cli.specs.Drills.{DrillsAs, StopsDrill, StopsOf, StopsPlan, asked_of, drill_asked, plan_asked}

@@ -3,27 +3,27 @@ use Rattle.std.proofs.Common.{◌≡◌, ◌∙◌, ◌&&◌, ℕ, arith, eqb, s
 use Rattle.std.proofs.lemmas.Bool.Decides.{nat_tests}
 use Rattle.std.specs.Prelude.{IfOk, String, if◌then◌else◌, is_some, not, option_map, string_bytes}
 use Rattle.std.specs.declared.alloc.Global.{Global}
-use Rattle.pf_fault.specs.declared.ending.Ending.{Ending}
-use Rattle.pf_fault.specs.declared.fault.Fault.{Fault}
-use Rattle.pf_fault.specs.declared.status.Status.TheVariants.{StreamFailed}
-use Rattle.pf_held.specs.Streams.{Streams, streams_of}
-use Rattle.pf_journaled.specs.Faults.{IsOutcome}
-use Rattle.pf_journaled.specs.Found.{Found}
-use Rattle.pf_journaled.specs.JournalError.{JournalError}
-use Rattle.pf_journaled.specs.JournalFault.TheVariants.{NoMemory}
-use Rattle.pf_journaled.specs.Journaled.{Begins}
-use Rattle.pf_journaled.specs.Kept.{IsFound, found_bytes, found_disk}
-use Rattle.pf_journaled.specs.Manner.{Manner}
-use Rattle.pf_journaled.specs.Recording.{Recording}
-use Rattle.pf_journaled.specs.Session.{SessionState}
-use Rattle.pf_sitting.specs.Sits.{HasSat}
-use Rattle.pf_sitting.specs.declared.answers.Going.{Going}
-use Rattle.pf_sitting.specs.declared.fault.SitFault.{SitFault}
+use Rattle.pf_vocabulary.specs.declared.fault.ending.Ending.{Ending}
+use Rattle.pf_vocabulary.specs.declared.fault.fault.Fault.{Fault}
+use Rattle.pf_vocabulary.specs.declared.fault.status.Status.TheVariants.{StreamFailed}
+use Rattle.pf_stream.specs.HeldAnswers.Streams.{Streams, streams_of}
+use Rattle.pf_journal_file.specs.Faults.{IsOutcome}
+use Rattle.pf_journal.specs.declared.found.Found.{Found}
+use Rattle.pf_journal.specs.declared.journal_error.JournalError.{JournalError}
+use Rattle.pf_journal_file.specs.declared.journal_fault.JournalFault.TheVariants.{NoMemory}
+use Rattle.pf_journal_session.specs.Journaled.{Begins}
+use Rattle.pf_journal.specs.Kept.{IsFound, found_bytes, found_disk}
+use Rattle.pf_answers.specs.declared.manner.Manner.{Manner}
+use Rattle.pf_journal.specs.Recorder.Recording.{Recording}
+use Rattle.pf_session.specs.Session.{SessionState}
+use Rattle.pf_stream.specs.Dialogue.Sits.{HasSat}
+use Rattle.pf_stream.specs.declared.dialogue.answers.Going.{Going}
+use Rattle.pf_stream.specs.declared.dialogue.fault.SitFault.{SitFault}
 use Rattle.pf_stream.specs.Faults.{fault_of_reading}
 use Rattle.pf_stream.specs.declared.reading.ReadingFault.{ReadingFault}
 use Rattle.pf_stream.specs.declared.reading.ReadingFault.TheVariants as reading
-use Rattle.pf_words.specs.Asked.{name_of}
-use Rattle.pf_words.specs.Desks.{DeskNames}
+use Rattle.pf_arguments.specs.Asked.{name_of}
+use Rattle.pf_arguments.specs.Desks.{DeskNames}
 use Rattle.pf_cli.specs.Desks.{manner_of}
 use Rattle.pf_cli.specs.Journals.{BeginsOn, CameToKept, DoesNotBeginOn, HasSatOn, HoldsKept, HoldsWith, talk_kept, told_sizes}
 use Rattle.pf_cli.specs.Noted.{IsTold, IsUnreadNote, notes_in, status_ended}

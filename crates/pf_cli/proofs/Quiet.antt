@@ -1,10 +1,10 @@
 -- A status of 0 is that of what was done.
 use Rattle.std.proofs.Common.{◌≡◌, ◌≢◌, refl, arith}
-use Rattle.pf_fault.specs.Faults.{number_of, status_behind}
-use Rattle.pf_fault.specs.declared.fault.Fault.{Fault}
-use Rattle.pf_fault.specs.declared.fault.Fault.TheVariants as why
-use Rattle.pf_fault.specs.declared.status.Status.{Status}
-use Rattle.pf_fault.specs.declared.status.Status.TheVariants.{Done, BadScript, BadWords, StreamFailed, NoMemory, GateShut, FailedOn}
+use Rattle.pf_vocabulary.specs.Fault.Faults.{number_of, status_behind}
+use Rattle.pf_vocabulary.specs.declared.fault.fault.Fault.{Fault}
+use Rattle.pf_vocabulary.specs.declared.fault.fault.Fault.TheVariants as why
+use Rattle.pf_vocabulary.specs.declared.fault.status.Status.{Status}
+use Rattle.pf_vocabulary.specs.declared.fault.status.Status.TheVariants.{Done, BadScript, BadWords, StreamFailed, NoMemory, GateShut, FailedOn}
 
 pub done_of_zero : (s : Status) → number_of s ≡ 0 → s ≡ Done
 done_of_zero Done is = refl

@@ -3,19 +3,19 @@ use Rattle.std.proofs.Common.{◌≡◌, ◌⊎◌, ℕ, Bool, true, false, List
 use Rattle.std.specs.Prelude.{◌&&◌, Vec}
 use Rattle.std.specs.declared.alloc.Global.{Global}
 use Rattle.std.specs.Io.KnownBytes.{Keeps}
-use Rattle.pf_fault.specs.declared.ending.Ending.{Ending}
-use Rattle.pf_fault.specs.declared.fault.Fault.{Fault}
-use Rattle.pf_fault.specs.declared.fault.Fault.TheVariants as why
-use Rattle.pf_names.specs.Titled.{untitled}
-use Rattle.pf_names.specs.declared.named.Named.{Named}
-use Rattle.pf_names.specs.declared.titles.Titles.{Titles}
-use Rattle.pf_plain.specs.Plain.{MakesPlain, Plain, plain}
-use Rattle.pf_plain.specs.declared.origin.Origin.{Origin}
-use Rattle.pf_plain.specs.declared.plain.PlainScript.{PlainScript}
+use Rattle.pf_vocabulary.specs.declared.fault.ending.Ending.{Ending}
+use Rattle.pf_vocabulary.specs.declared.fault.fault.Fault.{Fault}
+use Rattle.pf_vocabulary.specs.declared.fault.fault.Fault.TheVariants as why
+use Rattle.pf_vocabulary.specs.Names.Titled.{untitled}
+use Rattle.pf_vocabulary.specs.declared.names.named.Named.{Named}
+use Rattle.pf_vocabulary.specs.declared.names.titles.Titles.{Titles}
+use Rattle.pf_plain_script.specs.Plain.{MakesPlain, Plain, plain}
+use Rattle.pf_plain_script.specs.declared.origin.Origin.{Origin}
+use Rattle.pf_plain_script.specs.declared.plain.PlainScript.{PlainScript}
 use Rattle.pf_script.specs.Told.{told}
 use Rattle.pf_script_notes.specs.Behind.{NotesBy, RunNotes, names_in, origins_in, text_in}
-use Rattle.pf_carry.specs.Carried.{Stops}
-use Rattle.pf_words.specs.declared.task.Task.{Task}
+use Rattle.pf_script_run.specs.Carried.{Stops}
+use Rattle.pf_arguments.specs.declared.task.Task.{Task}
 use Rattle.pf_cli.specs.Ends.{AreRunNotes, IsTextBy}
 use Rattle.pf_cli.specs.Noted.{OneOf, notes_in}
 use Rattle.pf_cli.specs.Tasks.{AnswersTask}

@@ -6,12 +6,12 @@ use Rattle.std.proofs.KnownBytes.{Appends-nil}
 use Rattle.std.proofs.lemmas.Bool.{le-ltb, lt-ltb}
 use Rattle.pf_commands.specs.Answers.{Answers}
 use Rattle.pf_commands.specs.Meaning.{Meaning, TooLong, script_meaning}
-use Rattle.pf_fault.specs.declared.fault.Fault.{Fault}
-use Rattle.pf_names.specs.declared.titles.Titles.{Titles}
-use Rattle.pf_options.specs.declared.format.Format.{Format}
-use Rattle.pf_plain.specs.declared.origin.Origin.{Origin}
-use Rattle.pf_plain.specs.declared.plain.PlainScript.{PlainScript}
-use Rattle.pf_plain.specs.Plain.{IsPlain, MakesPlain, Plain, plain}
+use Rattle.pf_vocabulary.specs.declared.fault.fault.Fault.{Fault}
+use Rattle.pf_vocabulary.specs.declared.names.titles.Titles.{Titles}
+use Rattle.pf_vocabulary.specs.declared.options.format.Format.{Format}
+use Rattle.pf_plain_script.specs.declared.origin.Origin.{Origin}
+use Rattle.pf_plain_script.specs.declared.plain.PlainScript.{PlainScript}
+use Rattle.pf_plain_script.specs.Plain.{IsPlain, MakesPlain, Plain, plain}
 use Rattle.pf_stream.specs.declared.reading.ReadingFault.{ReadingFault}
 use Rattle.pf_stream.specs.declared.reading.ReadingFault.TheVariants as reading
 use Rattle.pf_stream.specs.Faults.{fault_of_reading}

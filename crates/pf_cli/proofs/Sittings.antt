@@ -2,10 +2,10 @@
 use Rattle.std.proofs.Common.{◌≡◌, ℕ, Bool, inr, subst, Result, Err}
 use Rattle.std.specs.Prelude.{Vec}
 use Rattle.std.specs.declared.alloc.Global.{Global}
-use Rattle.pf_fault.specs.declared.fault.Fault.{Fault}
-use Rattle.pf_fault.specs.declared.status.Status.TheVariants.{StreamFailed}
-use Rattle.pf_held.specs.Streams.{Streams}
-use Rattle.pf_words.specs.Desks.{DeskNames}
+use Rattle.pf_vocabulary.specs.declared.fault.fault.Fault.{Fault}
+use Rattle.pf_vocabulary.specs.declared.fault.status.Status.TheVariants.{StreamFailed}
+use Rattle.pf_stream.specs.HeldAnswers.Streams.{Streams}
+use Rattle.pf_arguments.specs.Desks.{DeskNames}
 use Rattle.pf_cli.specs.Desks.{DoesNotBegin, HoldsDesk, manner_of}
 use Rattle.pf_cli.specs.Noted.{IsTold, notes_in, status_ended}
 use Rattle.pf_cli.specs.Status.{Tells}

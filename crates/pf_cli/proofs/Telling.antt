@@ -9,9 +9,9 @@ use Rattle.std.proofs.KnownBytes.{Appends-nil, Appends-trans, Keeps-refl}
 use Rattle.pf_stream.specs.Written.{TookFront}
 use Rattle.pf_stream.proofs.Sending.{took-after, took-before}
 use Rattle.pf_cli.specs.Compared.{size_text}
-use Rattle.pf_fault.specs.declared.ending.Ending.{Ending}
-use Rattle.pf_fault.specs.declared.fault.Fault.{Fault}
-use Rattle.pf_fault.specs.declared.fault.Fault.TheVariants as why
+use Rattle.pf_vocabulary.specs.declared.fault.ending.Ending.{Ending}
+use Rattle.pf_vocabulary.specs.declared.fault.fault.Fault.{Fault}
+use Rattle.pf_vocabulary.specs.declared.fault.fault.Fault.TheVariants as why
 use Rattle.pf_cli.specs.Noted.{IsTold}
 use Rattle.pf_cli.specs.Status.{Tells}
 

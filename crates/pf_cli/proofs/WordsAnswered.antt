@@ -2,23 +2,23 @@
 use Rattle.std.proofs.Common.{◌≡◌, ◌∙◌, ◌+◌, ◌⊎◌, ℕ, append-nil, refl, sym, subst, inl, inr, arith, Bool, true, false, List, [], Option, Some, None, Ok, Err}
 use Rattle.std.specs.Prelude.{IfSome}
 use Rattle.std.proofs.KnownBytes.{Keeps-refl, Consumes-nil}
-use Rattle.pf_fault.specs.declared.fault.Fault.TheVariants as stop
-use Rattle.pf_fault.specs.declared.status.Status.{Status}
-use Rattle.pf_fault.specs.declared.status.Status.TheVariants.{StreamFailed}
-use Rattle.pf_held.specs.Streams as Held
-use Rattle.pf_words.specs.declared.request.WordsFault.{WordsFault}
-use Rattle.pf_words.specs.declared.request.WordsFault.TheVariants as fault
-use Rattle.pf_words.specs.declared.task.Task.{Task}
-use Rattle.pf_words.specs.Asked.{AsksHelp, AsksVersion, AreMistaken, IsAsked, IsRefused, IsShownTo, desk_asked, desk_named, file_asked, pair_asked, reads_input, reads_input_for, task_asked, telling_asked}
-use Rattle.pf_words.specs.Desks.{DeskNames}
-use Rattle.pf_words.specs.Diffs.{PairNames}
-use Rattle.pf_words.specs.declared.desk_words.DeskWords.{DeskWords}
-use Rattle.pf_words.specs.declared.request.Request.TheVariants.{Sit}
-use Rattle.pf_words.specs.declared.mistake.Mistake.{Mistake}
-use Rattle.pf_words.proofs.Unasked.{mistaken_asks_no_desk, mistaken_asks_no_pair, mistaken_asks_none, untaken_asks_no_desk, untaken_asks_no_pair, untaken_asks_none}
+use Rattle.pf_vocabulary.specs.declared.fault.fault.Fault.TheVariants as stop
+use Rattle.pf_vocabulary.specs.declared.fault.status.Status.{Status}
+use Rattle.pf_vocabulary.specs.declared.fault.status.Status.TheVariants.{StreamFailed}
+use Rattle.pf_stream.specs.HeldAnswers.Streams as Held
+use Rattle.pf_arguments.specs.declared.request.WordsFault.{WordsFault}
+use Rattle.pf_arguments.specs.declared.request.WordsFault.TheVariants as fault
+use Rattle.pf_arguments.specs.declared.task.Task.{Task}
+use Rattle.pf_arguments.specs.Asked.{AsksHelp, AsksVersion, AreMistaken, IsAsked, IsRefused, IsShownTo, desk_asked, desk_named, file_asked, pair_asked, reads_input, reads_input_for, task_asked, telling_asked}
+use Rattle.pf_arguments.specs.Desks.{DeskNames}
+use Rattle.pf_arguments.specs.Diffs.{PairNames}
+use Rattle.pf_arguments.specs.declared.desk_words.DeskWords.{DeskWords}
+use Rattle.pf_arguments.specs.declared.request.Request.TheVariants.{Sit}
+use Rattle.pf_arguments.specs.declared.mistake.Mistake.{Mistake}
+use Rattle.pf_arguments.proofs.Unasked.{mistaken_asks_no_desk, mistaken_asks_no_pair, mistaken_asks_none, untaken_asks_no_desk, untaken_asks_no_pair, untaken_asks_none}
 use Rattle.pf_stream.specs.Reading.{longest_script, TakesAtMost}
 use Rattle.pf_cli.specs.Source.{IsOf, IsSource}
-use Rattle.pf_journaled.specs.Manner.{Manner}
+use Rattle.pf_answers.specs.declared.manner.Manner.{Manner}
 use Rattle.pf_cli.specs.Desks.{DoesNotBegin, HasNotBegun, manner_of}
 use Rattle.pf_cli.specs.FaultLines.{fault_line}
 use Rattle.pf_cli.specs.Journals.{HoldsWith}

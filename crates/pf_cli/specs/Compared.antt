@@ -4,20 +4,20 @@ use Rattle.std.specs.Fmt.{decimal}
 use Rattle.std.specs.declared.alloc.Global.{Global}
 use Rattle.std.specs.Io.KnownBytes.{Keeps}
 use Rattle.pf_desk.specs.Desk.{Seen}
-use Rattle.pf_fault.specs.declared.answer.Answer.{Answer}
-use Rattle.pf_fault.specs.declared.ending.Ending.{Ending}
-use Rattle.pf_fault.specs.declared.fault.Fault.{Fault}
-use Rattle.pf_fault.specs.declared.fault.Fault.TheVariants as why
-use Rattle.pf_plain.specs.Plain.{Plain, plain}
+use Rattle.pf_vocabulary.specs.declared.fault.answer.Answer.{Answer}
+use Rattle.pf_vocabulary.specs.declared.fault.ending.Ending.{Ending}
+use Rattle.pf_vocabulary.specs.declared.fault.fault.Fault.{Fault}
+use Rattle.pf_vocabulary.specs.declared.fault.fault.Fault.TheVariants as why
+use Rattle.pf_plain_script.specs.Plain.{Plain, plain}
 use Rattle.pf_script.specs.Told.{told}
 use Rattle.pf_stream.specs.Reading.{longest_script}
 use Rattle.pf_text.specs.Page.{table_text}
-use Rattle.pf_options.specs.declared.diff_options.DiffOptions.{DiffOptions}
-use Rattle.pf_commands.specs.Carried.{ShowsEnd}
-use Rattle.pf_commands.specs.Course.{outcome_told}
+use Rattle.pf_vocabulary.specs.declared.options.diff_options.DiffOptions.{DiffOptions}
+use Rattle.pf_replies.specs.Carried.{ShowsEnd}
+use Rattle.pf_replies.specs.Course.{outcome_told}
 use Rattle.pf_change.specs.Difference.{difference, told_by}
-use Rattle.pf_options.specs.Ranges.{whole}
-use Rattle.pf_words.specs.Diffs.{PairNames}
+use Rattle.pf_vocabulary.specs.Options.Ranges.{whole}
+use Rattle.pf_arguments.specs.Diffs.{PairNames}
 use Rattle.pf_cli.specs.Noted.{AreNotes, OneOf, notes_in}
 use Rattle.pf_text.specs.FileName.{file_text}
 use Rattle.pf_cli.specs.Source.{IsHad, IsSource, told_name}

@@ -1,22 +1,22 @@
 -- What the program does where words ask for a session at a desk.
 use Rattle.std.specs.Prelude.{ℕ, ◌≡◌, ◌⊎◌, ◌||◌, not, is_some, Bool, if◌then◌else◌, List, [], IfOk, Option, None, Some, Result, Ok, Err, Vec}
 use Rattle.std.specs.declared.alloc.Global.{Global}
-use Rattle.pf_journaled.specs.Manner.{Manner}
-use Rattle.pf_fault.specs.Answers.{IsQuiet}
-use Rattle.pf_fault.specs.declared.ending.Ending.{Ending}
-use Rattle.pf_fault.specs.declared.fault.Fault.{Fault}
-use Rattle.pf_fault.specs.declared.fault.Fault.TheVariants as why
-use Rattle.pf_fault.specs.declared.status.Status.TheVariants.{BadScript, Done, StreamFailed}
-use Rattle.pf_held.specs.Streams.{Hears, IsDeaf, IsMute, Streams, Tells}
+use Rattle.pf_answers.specs.declared.manner.Manner.{Manner}
+use Rattle.pf_vocabulary.specs.Fault.Answers.{IsQuiet}
+use Rattle.pf_vocabulary.specs.declared.fault.ending.Ending.{Ending}
+use Rattle.pf_vocabulary.specs.declared.fault.fault.Fault.{Fault}
+use Rattle.pf_vocabulary.specs.declared.fault.fault.Fault.TheVariants as why
+use Rattle.pf_vocabulary.specs.declared.fault.status.Status.TheVariants.{BadScript, Done, StreamFailed}
+use Rattle.pf_stream.specs.HeldAnswers.Streams.{Hears, IsDeaf, IsMute, Streams, Tells}
 use Rattle.pf_script_notes.specs.Faults.{IsFaultNote}
-use Rattle.pf_journaled.specs.Session.{SessionState, at_start}
-use Rattle.pf_journaled.specs.Opening.{IsOpened, opened}
-use Rattle.pf_journaled.specs.Sitters.{answers, keeps, loses, stops}
-use Rattle.pf_sitting.specs.Sits.{HasSat, Talk, talk_of}
-use Rattle.pf_sitting.specs.declared.answers.Going.{Going}
-use Rattle.pf_sitting.specs.declared.fault.SitFault.{SitFault}
-use Rattle.pf_sitting.specs.declared.fault.SitFault.TheVariants as stop
-use Rattle.pf_words.specs.Desks.{DeskNames}
+use Rattle.pf_session.specs.Session.{SessionState, at_start}
+use Rattle.pf_session_turns.specs.Opening.{IsOpened, opened}
+use Rattle.pf_session_turns.specs.Sitters.{answers, keeps, loses, stops}
+use Rattle.pf_stream.specs.Dialogue.Sits.{HasSat, Talk, talk_of}
+use Rattle.pf_stream.specs.declared.dialogue.answers.Going.{Going}
+use Rattle.pf_stream.specs.declared.dialogue.fault.SitFault.{SitFault}
+use Rattle.pf_stream.specs.declared.dialogue.fault.SitFault.TheVariants as stop
+use Rattle.pf_arguments.specs.Desks.{DeskNames}
 use Rattle.pf_cli.specs.Noted.{IsTold, IsUnreadNote, OneOf, notes_in, status_ended}
 use Rattle.pf_cli.specs.Source.{IsHad}
 use Rattle.pf_cli.specs.Status.{Tells as IsToldSo}

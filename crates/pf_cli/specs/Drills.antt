@@ -4,11 +4,11 @@ use Rattle.std.specs.Io.KnownBytes.{Appends, Keeps}
 use Rattle.pf_board.specs.declared.quantum.Quantum.{Quantum}
 use Rattle.pf_drill.specs.declared.worker.Worker.{Worker}
 use Rattle.pf_drill.specs.Drilled.{Drills, IsHalt, Stops}
-use Rattle.pf_fault.specs.declared.fault.Fault.{Fault}
-use Rattle.pf_fault.specs.declared.fault.Fault.TheVariants as fault
-use Rattle.pf_plain.specs.declared.origin.Origin.{Origin}
-use Rattle.pf_plain.specs.Plain.{Plain, plain}
-use Rattle.pf_carrying.specs.Asked.{Asked, Whole, BadRecord, script_asked}
+use Rattle.pf_vocabulary.specs.declared.fault.fault.Fault.{Fault}
+use Rattle.pf_vocabulary.specs.declared.fault.fault.Fault.TheVariants as fault
+use Rattle.pf_plain_script.specs.declared.origin.Origin.{Origin}
+use Rattle.pf_plain_script.specs.Plain.{Plain, plain}
+use Rattle.pf_script_desk.specs.Asked.{Asked, Whole, BadRecord, script_asked}
 use Rattle.pf_stream.specs.Reading.{longest_script}
 use Rattle.pf_stream.specs.Written.{TookFront}
 use Rattle.pf_text.specs.Page.{table_text}

@@ -1,13 +1,13 @@
 -- How a task ended with a script, and the notes of a run by the desk that it left.
 use Rattle.std.specs.Prelude.{⊤, ℕ, ◌≡◌, List, Option, Result, Ok, Err, Vec}
 use Rattle.std.specs.declared.alloc.Global.{Global}
-use Rattle.pf_carry.specs.Carried.{IsOf}
-use Rattle.pf_fault.specs.declared.ending.Ending.{Ending}
-use Rattle.pf_fault.specs.declared.fault.Fault.{Fault}
-use Rattle.pf_fault.specs.declared.fault.Fault.TheVariants as why
-use Rattle.pf_names.specs.declared.named.Named.{Named}
-use Rattle.pf_plain.specs.Plain.{Plain}
-use Rattle.pf_plain.specs.declared.origin.Origin.{Origin}
+use Rattle.pf_script_run.specs.Carried.{IsOf}
+use Rattle.pf_vocabulary.specs.declared.fault.ending.Ending.{Ending}
+use Rattle.pf_vocabulary.specs.declared.fault.fault.Fault.{Fault}
+use Rattle.pf_vocabulary.specs.declared.fault.fault.Fault.TheVariants as why
+use Rattle.pf_vocabulary.specs.declared.names.named.Named.{Named}
+use Rattle.pf_plain_script.specs.Plain.{Plain}
+use Rattle.pf_plain_script.specs.declared.origin.Origin.{Origin}
 use Rattle.pf_script.specs.Told.{told}
 use Rattle.pf_script_notes.specs.Behind.{RunNotes, names_in, origins_in, text_in}
 use Rattle.pf_cli.specs.declared.task_end.TaskEnd.{TaskEnd}

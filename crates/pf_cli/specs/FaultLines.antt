@@ -1,10 +1,10 @@
 -- The line of a fault.
 use Rattle.std.specs.Prelude.{ℕ, List, ◌++◌, codes}
 use Rattle.std.specs.Fmt.{decimal}
-use Rattle.pf_fault.specs.declared.fault.Fault.{Fault}
-use Rattle.pf_fault.specs.declared.fault.Fault.TheVariants as why
-use Rattle.pf_fault.specs.declared.range_fault.RangeFault.{RangeFault}
-use Rattle.pf_fault.specs.declared.range_fault.RangeFault.TheVariants as range
+use Rattle.pf_vocabulary.specs.declared.fault.fault.Fault.{Fault}
+use Rattle.pf_vocabulary.specs.declared.fault.fault.Fault.TheVariants as why
+use Rattle.pf_vocabulary.specs.declared.fault.range_fault.RangeFault.{RangeFault}
+use Rattle.pf_vocabulary.specs.declared.fault.range_fault.RangeFault.TheVariants as range
 
 -- a number between two texts
 abbrev pub numbered_line : List ℕ → ℕ → List ℕ → List ℕ

@@ -1,31 +1,31 @@
 -- What the program does where words ask for a session with a journal.
 use Rattle.std.specs.Prelude.{ℕ, ◌≡◌, ◌⊎◌, ◌==◌, ◌&&◌, not, Bool, if◌then◌else◌, List, [], IfOk, IfSome, Option, None, Some, is_some, Result, Err, Vec}
 use Rattle.std.specs.declared.alloc.Global.{Global}
-use Rattle.pf_journaled.specs.Manner.{Manner}
-use Rattle.pf_fault.specs.declared.ending.Ending.{Ending}
-use Rattle.pf_fault.specs.declared.fault.Fault.{Fault}
-use Rattle.pf_fault.specs.declared.status.Status.TheVariants.{StreamFailed}
-use Rattle.pf_held.specs.Streams.{Hears, IsDeaf, IsMute, Streams, Tells}
-use Rattle.pf_journaled.specs.Kept.{IsFound, found_bytes, found_disk}
-use Rattle.pf_journaled.specs.Lines.{script_of}
-use Rattle.pf_journaled.specs.Found.{Found}
-use Rattle.pf_journaled.specs.JournalError.{JournalError}
-use Rattle.pf_journaled.specs.Faults.{IsOutcome, IsUnhad, fault_of_adding}
-use Rattle.pf_journaled.specs.Sizes.{sizes_line}
+use Rattle.pf_answers.specs.declared.manner.Manner.{Manner}
+use Rattle.pf_vocabulary.specs.declared.fault.ending.Ending.{Ending}
+use Rattle.pf_vocabulary.specs.declared.fault.fault.Fault.{Fault}
+use Rattle.pf_vocabulary.specs.declared.fault.status.Status.TheVariants.{StreamFailed}
+use Rattle.pf_stream.specs.HeldAnswers.Streams.{Hears, IsDeaf, IsMute, Streams, Tells}
+use Rattle.pf_journal.specs.Kept.{IsFound, found_bytes, found_disk}
+use Rattle.pf_journal.specs.Lines.{script_of}
+use Rattle.pf_journal.specs.declared.found.Found.{Found}
+use Rattle.pf_journal.specs.declared.journal_error.JournalError.{JournalError}
+use Rattle.pf_journal_file.specs.Faults.{IsOutcome, IsUnhad, fault_of_adding}
+use Rattle.pf_journal_file.specs.Sizes.{sizes_line}
 use Rattle.pf_journal_file.specs.declared.sizes.Sizes.{Sizes}
-use Rattle.pf_journaled.specs.JournalFault.{JournalFault}
-use Rattle.pf_journaled.specs.Journaled.{Begins, DoesNotBegin as IsNotBegun, session_on}
-use Rattle.pf_journaled.specs.declared.unopened.Unopened.TheVariants.{Journal}
-use Rattle.pf_journaled.specs.Recording.{Answers as Records, Keeps, Loses, Recording, Stops}
+use Rattle.pf_journal_file.specs.declared.journal_fault.JournalFault.{JournalFault}
+use Rattle.pf_journal_session.specs.Journaled.{Begins, DoesNotBegin as IsNotBegun, session_on}
+use Rattle.pf_journal_session.specs.declared.unopened.Unopened.TheVariants.{Journal}
+use Rattle.pf_journal.specs.Recorder.Recording.{Answers as Records, Keeps, Loses, Recording, Stops}
 use Rattle.pf_script_notes.specs.Faults.{IsFaultNote}
-use Rattle.pf_journaled.specs.Opening.{IsOpened}
-use Rattle.pf_journaled.specs.Session.{SessionState}
-use Rattle.pf_journaled.specs.Sitters.{answers}
-use Rattle.pf_sitting.specs.Sits.{Talk, talk_of}
-use Rattle.pf_sitting.specs.declared.answers.Going.{Going}
-use Rattle.pf_sitting.specs.declared.fault.SitFault.{SitFault}
-use Rattle.pf_sitting.specs.declared.fault.SitFault.TheVariants as stop
-use Rattle.pf_words.specs.Desks.{DeskNames}
+use Rattle.pf_session_turns.specs.Opening.{IsOpened}
+use Rattle.pf_session.specs.Session.{SessionState}
+use Rattle.pf_session_turns.specs.Sitters.{answers}
+use Rattle.pf_stream.specs.Dialogue.Sits.{Talk, talk_of}
+use Rattle.pf_stream.specs.declared.dialogue.answers.Going.{Going}
+use Rattle.pf_stream.specs.declared.dialogue.fault.SitFault.{SitFault}
+use Rattle.pf_stream.specs.declared.dialogue.fault.SitFault.TheVariants as stop
+use Rattle.pf_arguments.specs.Desks.{DeskNames}
 use Rattle.pf_cli.specs.Desks.{CameTo, DoesNotBegin, HasSatDown, HoldsDesk, manner_of}
 use Rattle.pf_cli.specs.Noted.{IsTold, OneOf, notes_in, status_ended}
 use Rattle.pf_cli.specs.Status.{Tells as IsToldSo}

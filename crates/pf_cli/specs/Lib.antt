@@ -2,9 +2,9 @@ pub use Rattle.pf_stream.specs.Counted
 pub use Rattle.pf_stream.specs.Failing
 pub use Rattle.pf_stream.specs.Written
 pub use Rattle.pf_stream.specs.Reading
-pub use Rattle.pf_words.specs.Asked
-pub use Rattle.pf_words.specs.CommandLine
-pub use Rattle.pf_options.specs.FailLists
+pub use Rattle.pf_arguments.specs.Asked
+pub use Rattle.pf_arguments.specs.CommandLine
+pub use Rattle.pf_vocabulary.specs.Options.FailLists
 pub use Rattle.pf_commands.specs.Checks
 pub use Rattle.pf_commands.specs.Ended
 pub use Rattle.pf_commands.specs.Meaning

@@ -2,26 +2,26 @@
 use Rattle.std.specs.Prelude.{ℕ, ◌≡◌, ◌||◌, ◌&&◌, not, Bool, true, false, if◌then◌else◌, List, [], ◌++◌, IfOk, Option, None, Some, Result, Ok, Err, Vec}
 use Rattle.std.specs.declared.alloc.Global.{Global}
 use Rattle.std.specs.declared.io.ErrorKind.{ErrorKind}
-use Rattle.pf_fault.specs.Answers.{status_of}
-use Rattle.pf_fault.specs.Faults.{number_of}
-use Rattle.pf_fault.specs.declared.ending.Ending.{Ending}
-use Rattle.pf_fault.specs.declared.fault.Fault.{Fault}
-use Rattle.pf_fault.specs.declared.fault.Fault.TheVariants as why
-use Rattle.pf_fault.specs.declared.status.Status.{Status}
-use Rattle.pf_fault.specs.declared.status.Status.TheVariants.{Done, BadWords, StreamFailed}
-use Rattle.pf_fault_notes.specs.FileFaults.{file_fault_line, file_fault_of}
-use Rattle.pf_fault_notes.specs.declared.file_fault.FileFault.TheVariants as file
-use Rattle.pf_options.specs.Formats.{range_of}
-use Rattle.pf_options.specs.Ranges.{whole}
-use Rattle.pf_options.specs.declared.diff_options.DiffOptions.{DiffOptions}
-use Rattle.pf_options.specs.declared.fail_on.FailOn.{FailOn}
-use Rattle.pf_options.specs.declared.format.Format.{Format}
-use Rattle.pf_options.specs.declared.format.Format.TheVariants.{Html}
-use Rattle.pf_options.specs.declared.slot_range.SlotRange.{SlotRange}
+use Rattle.pf_vocabulary.specs.Fault.Answers.{status_of}
+use Rattle.pf_vocabulary.specs.Fault.Faults.{number_of}
+use Rattle.pf_vocabulary.specs.declared.fault.ending.Ending.{Ending}
+use Rattle.pf_vocabulary.specs.declared.fault.fault.Fault.{Fault}
+use Rattle.pf_vocabulary.specs.declared.fault.fault.Fault.TheVariants as why
+use Rattle.pf_vocabulary.specs.declared.fault.status.Status.{Status}
+use Rattle.pf_vocabulary.specs.declared.fault.status.Status.TheVariants.{Done, BadWords, StreamFailed}
+use Rattle.pf_script.specs.FaultNotes.FileFaults.{file_fault_line, file_fault_of}
+use Rattle.pf_script.specs.declared.fault_notes.file_fault.FileFault.TheVariants as file
+use Rattle.pf_vocabulary.specs.Options.Formats.{range_of}
+use Rattle.pf_vocabulary.specs.Options.Ranges.{whole}
+use Rattle.pf_vocabulary.specs.declared.options.diff_options.DiffOptions.{DiffOptions}
+use Rattle.pf_vocabulary.specs.declared.options.fail_on.FailOn.{FailOn}
+use Rattle.pf_vocabulary.specs.declared.options.format.Format.{Format}
+use Rattle.pf_vocabulary.specs.declared.options.format.Format.TheVariants.{Html}
+use Rattle.pf_vocabulary.specs.declared.options.slot_range.SlotRange.{SlotRange}
 use Rattle.pf_script_notes.specs.Behind.{NotesMade}
 use Rattle.pf_script_notes.specs.Faults.{IsFaultNote}
-use Rattle.pf_words.specs.declared.task.Task.{Task}
-use Rattle.pf_words.specs.declared.task.Task.TheVariants.{Run, RunTasks, Check, CheckRun, Diff, Drill, Convert, Fit, Why}
+use Rattle.pf_arguments.specs.declared.task.Task.{Task}
+use Rattle.pf_arguments.specs.declared.task.Task.TheVariants.{Run, RunTasks, Check, CheckRun, Diff, Drill, Convert, Fit, Why}
 use Rattle.pf_cli.specs.FaultLines.{fault_line}
 use Rattle.pf_cli.specs.declared.noting.Noting.{Noting}
 

@@ -1,7 +1,7 @@
 -- Why a script is not run or drilled to its end.
 use Rattle.std.specs.Prelude.{ℕ}
-use Rattle.pf_fault.specs.declared.fault.Fault.{Fault}
-use Rattle.pf_fault.specs.declared.fault.Fault.TheVariants as why
+use Rattle.pf_vocabulary.specs.declared.fault.fault.Fault.{Fault}
+use Rattle.pf_vocabulary.specs.declared.fault.fault.Fault.TheVariants as why
 use Rattle.pf_cli.specs.declared.run_fault.RunFault.{RunFault}
 use Rattle.pf_cli.specs.declared.run_fault.RunFault.TheVariants.{BadLine, ScriptTooLong, BadRange, ReadFault, WriteFault, NoMemory, NoViewer, Unread, GateShut}
 

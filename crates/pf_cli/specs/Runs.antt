@@ -2,10 +2,10 @@
 use Rattle.std.specs.Prelude.{ℕ, ⊤, ◌≡◌, ◌+◌, nat_lt, if◌then◌else◌, List, [], length, Option, None, Some, Result, Ok, Err}
 use Rattle.std.specs.Io.KnownBytes.{Appends, Keeps}
 use Rattle.pf_commands.specs.Meaning.{End, Meaning, Done, BadRecord, TooLong, Outside, script_meaning}
-use Rattle.pf_names.specs.Titled.{untitled}
-use Rattle.pf_options.specs.declared.format.Format.{Format}
-use Rattle.pf_plain.specs.declared.origin.Origin.{Origin}
-use Rattle.pf_plain.specs.Plain.{Plain, plain}
+use Rattle.pf_vocabulary.specs.Names.Titled.{untitled}
+use Rattle.pf_vocabulary.specs.declared.options.format.Format.{Format}
+use Rattle.pf_plain_script.specs.declared.origin.Origin.{Origin}
+use Rattle.pf_plain_script.specs.Plain.{Plain, plain}
 use Rattle.pf_stream.specs.Reading.{longest_script}
 use Rattle.pf_stream.specs.Written.{TookFront}
 use Rattle.pf_text.specs.Page.{table_text}

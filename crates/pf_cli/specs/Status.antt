@@ -2,23 +2,23 @@
 use Rattle.std.specs.Prelude.{ℕ, ◌≡◌, ◌+◌, Bool, true, false, List, [], Option, Some, None, Result, Ok, Err, Vec, if◌then◌else◌, ◌⊎◌}
 use Rattle.std.specs.declared.alloc.Global.{Global}
 use Rattle.std.specs.Io.KnownBytes.{Appends, Keeps}
-use Rattle.pf_fault.specs.declared.ending.Ending.{Ending}
-use Rattle.pf_fault.specs.declared.fault.Fault.{Fault}
-use Rattle.pf_fault.specs.declared.fault.Fault.TheVariants as why
-use Rattle.pf_fault.specs.declared.status.Status.TheVariants.{Done, StreamFailed}
+use Rattle.pf_vocabulary.specs.declared.fault.ending.Ending.{Ending}
+use Rattle.pf_vocabulary.specs.declared.fault.fault.Fault.{Fault}
+use Rattle.pf_vocabulary.specs.declared.fault.fault.Fault.TheVariants as why
+use Rattle.pf_vocabulary.specs.declared.fault.status.Status.TheVariants.{Done, StreamFailed}
 use Rattle.pf_desk.specs.Desk.{Seen}
-use Rattle.pf_fault.specs.Faults.{CountsWrites, number_of}
-use Rattle.pf_words.specs.declared.request.WordsFault.{WordsFault}
-use Rattle.pf_words.specs.declared.request.WordsFault.TheVariants as words
-use Rattle.pf_words.specs.declared.task.Task.{Task}
-use Rattle.pf_words.specs.declared.task.Task.TheVariants.{Convert, Fit}
+use Rattle.pf_vocabulary.specs.Fault.Faults.{CountsWrites, number_of}
+use Rattle.pf_arguments.specs.declared.request.WordsFault.{WordsFault}
+use Rattle.pf_arguments.specs.declared.request.WordsFault.TheVariants as words
+use Rattle.pf_arguments.specs.declared.task.Task.{Task}
+use Rattle.pf_arguments.specs.declared.task.Task.TheVariants.{Convert, Fit}
 use Rattle.clap.specs.Words.{subcommand_of}
-use Rattle.pf_words.specs.Asked.{task_asked, pair_asked, desk_asked, file_asked, telling_asked, AsksHelp, AsksVersion, IsMistakeText, IsRefused, IsShownTo, AreMistaken}
-use Rattle.pf_words.specs.CommandLine.{program}
-use Rattle.pf_words.specs.Desks.{DeskNames}
-use Rattle.pf_words.specs.Diffs.{PairNames}
-use Rattle.pf_words.specs.Texts.{IsRefusal}
-use Rattle.pf_words.specs.declared.mistake.Mistake.{Mistake}
+use Rattle.pf_arguments.specs.Asked.{task_asked, pair_asked, desk_asked, file_asked, telling_asked, AsksHelp, AsksVersion, IsMistakeText, IsRefused, IsShownTo, AreMistaken}
+use Rattle.pf_arguments.specs.CommandLine.{program}
+use Rattle.pf_arguments.specs.Desks.{DeskNames}
+use Rattle.pf_arguments.specs.Diffs.{PairNames}
+use Rattle.pf_arguments.specs.Texts.{IsRefusal}
+use Rattle.pf_arguments.specs.declared.mistake.Mistake.{Mistake}
 use Rattle.pf_stream.specs.Written.{TookFront}
 use Rattle.pf_cli.specs.Compared.{AnswersSecond, PairNotes, Shows}
 use Rattle.pf_cli.specs.FaultLines.{fault_line}

@@ -1,22 +1,22 @@
 -- What the program answers to a task with a script, or with a list of tasks, and what it writes.
 use Rattle.std.specs.Prelude.{ℕ, ⊤, ◌≡◌, List, [], Option, Some, option_map, IfOk, IfErr, Result, Ok, Err}
 use Rattle.std.specs.Io.KnownBytes.{Appends, Keeps}
-use Rattle.pf_fault.specs.declared.answer.Answer.{Answer}
-use Rattle.pf_fault.specs.declared.ending.Ending.{Ending}
-use Rattle.pf_fault.specs.declared.fault.Fault.{Fault}
-use Rattle.pf_fault.specs.declared.fault.Fault.TheVariants as why
-use Rattle.pf_fault.specs.declared.status.Status.TheVariants.{Done}
-use Rattle.pf_fault.specs.Answers.{IsQuiet}
-use Rattle.pf_fault.specs.Faults.{IsOutside}
+use Rattle.pf_vocabulary.specs.declared.fault.answer.Answer.{Answer}
+use Rattle.pf_vocabulary.specs.declared.fault.ending.Ending.{Ending}
+use Rattle.pf_vocabulary.specs.declared.fault.fault.Fault.{Fault}
+use Rattle.pf_vocabulary.specs.declared.fault.fault.Fault.TheVariants as why
+use Rattle.pf_vocabulary.specs.declared.fault.status.Status.TheVariants.{Done}
+use Rattle.pf_vocabulary.specs.Fault.Answers.{IsQuiet}
+use Rattle.pf_vocabulary.specs.Fault.Faults.{IsOutside}
 use Rattle.pf_stream.specs.Written.{TookFront}
-use Rattle.pf_names.specs.declared.titles.Titles.{Titles}
-use Rattle.pf_carrying.specs.Asked.{script_asked}
-use Rattle.pf_options.specs.declared.diff_options.DiffOptions.{DiffOptions}
-use Rattle.pf_options.specs.declared.fail_on.FailOn.{FailOn}
-use Rattle.pf_options.specs.declared.format.Format.{Format}
-use Rattle.pf_words.specs.declared.task.Task.{Task}
-use Rattle.pf_words.specs.declared.task.Task.TheVariants.{Run, RunTasks, Check, CheckRun, Diff, Drill, Convert, Fit, Why}
-use Rattle.pf_options.specs.FailLists.{on_nothing}
+use Rattle.pf_vocabulary.specs.declared.names.titles.Titles.{Titles}
+use Rattle.pf_script_desk.specs.Asked.{script_asked}
+use Rattle.pf_vocabulary.specs.declared.options.diff_options.DiffOptions.{DiffOptions}
+use Rattle.pf_vocabulary.specs.declared.options.fail_on.FailOn.{FailOn}
+use Rattle.pf_vocabulary.specs.declared.options.format.Format.{Format}
+use Rattle.pf_arguments.specs.declared.task.Task.{Task}
+use Rattle.pf_arguments.specs.declared.task.Task.TheVariants.{Run, RunTasks, Check, CheckRun, Diff, Drill, Convert, Fit, Why}
+use Rattle.pf_vocabulary.specs.Options.FailLists.{on_nothing}
 use Rattle.pf_commands.specs.Answers.{Answers}
 use Rattle.pf_commands.specs.Checks.{ChecksBytes}
 use Rattle.pf_commands.specs.Ended.{fails_on, run_status}
@@ -27,16 +27,16 @@ use Rattle.pf_check_run.specs.Answers.{ChecksRun}
 use Rattle.pf_change.specs.Difference.{told_by}
 use Rattle.pf_change.specs.Made as change
 use Rattle.pf_why_answer.specs.Answer.{WhyMade}
-use Rattle.pf_carry.specs.Carried as carried
+use Rattle.pf_script_run.specs.Carried as carried
 use Rattle.pf_check_run.specs.Fit as fit
-use Rattle.pf_options.specs.declared.fit_format.FitFormat.{FitFormat}
-use Rattle.pf_plain.specs.declared.origin.Origin.{Origin}
+use Rattle.pf_vocabulary.specs.declared.options.fit_format.FitFormat.{FitFormat}
+use Rattle.pf_plain_script.specs.declared.origin.Origin.{Origin}
 use Rattle.pf_script.specs.Told.{told}
 use Rattle.pf_drill.specs.Drilled.{Drills}
 use Rattle.pf_drill.specs.Drilled as drill
 use Rattle.pf_drill.specs.Gates.{SomeArrived}
-use Rattle.pf_convert_words.specs.declared.conversion.Conversion.{Conversion}
-use Rattle.pf_conversion.specs.Conversions.{MakesConversion}
+use Rattle.pf_convert.specs.declared.words.conversion.Conversion.{Conversion}
+use Rattle.pf_convert.specs.Conversion.Conversions.{MakesConversion}
 
 -- the script, which has these titles and origins where it belongs to a plan, was run in this format: the writer took what it means, or a front of that, and the status tells whether the run
 -- fails on what is listed, which it never does on nothing; where the range can't be shown the writer is as it was

@@ -1,12 +1,12 @@
 ghost use Rattle.std.specs.Prelude.{◌≡◌, ◌-◌, ◌^◌, ◌<◌, [], IfOk, IfErr};
-ghost use Rattle.pf_fault.specs.Faults.{CountsWrites, IsUnwritten};
+ghost use Rattle.pf_vocabulary.specs.Fault.Faults.{CountsWrites, IsUnwritten};
 ghost use Rattle.pf_cli.specs.Tasks.{AnswersMade, IsQuietIfDone};
 
-use pf_fault::answer::Answer;
-use pf_fault::ending::Ending;
-use pf_fault::fault::Fault;
 use pf_stream::sink::Sink;
 use pf_stream::writing::write_out;
+use pf_vocabulary::fault::answer::Answer;
+use pf_vocabulary::fault::ending::Ending;
+use pf_vocabulary::fault::fault::Fault;
 
 /// Writes the text of an answer that was made whole. The writer's count of failures must be below `u64::MAX` before the call.
 ///

@@ -1,7 +1,7 @@
 ghost use Rattle.std.specs.Prelude.{◌≡◌, ◌≢◌, ◌+◌, ◌-◌, ◌^◌, ◌<◌, ◌≤◌, ◌++◌, [], Err, IfOk};
 ghost use Rattle.std.specs.Io.KnownBytes.{Keeps};
-ghost use Rattle.pf_fault.specs.declared.fault.Fault.TheVariants as why;
-ghost use Rattle.pf_fault.specs.Faults.{number_of, status_behind};
+ghost use Rattle.pf_vocabulary.specs.declared.fault.fault.Fault.TheVariants as why;
+ghost use Rattle.pf_vocabulary.specs.Fault.Faults.{number_of, status_behind};
 ghost use Rattle.pf_cli.specs.FaultLines.{fault_line};
 ghost use Rattle.pf_cli.specs.Noted.{IsTold, notes_in, status_ended};
 ghost use Rattle.pf_cli.specs.Status.{Tells};
@@ -9,11 +9,11 @@ ghost use Rattle.pf_cli.specs.Tasks.{IsQuietIfDone};
 
 use crate::fault_line::write_fault;
 use crate::noted::Noted;
-use pf_fault::ending::Ending;
-use pf_fault::fault::Fault;
-use pf_fault::status::Status;
 use pf_stream::sink::Sink;
 use pf_stream::writing::write_out;
+use pf_vocabulary::fault::ending::Ending;
+use pf_vocabulary::fault::fault::Fault;
+use pf_vocabulary::fault::status::Status;
 use std::fmt::Display;
 use std::io::Write;
 

@@ -6,10 +6,10 @@ ghost use Rattle.pf_stream.specs.Written.{TookFront};
 ghost use Rattle.pf_cli.specs.FaultLines.{fault_line, numbered_line};
 
 use itoa::Buffer;
-use pf_fault::fault::Fault;
-use pf_fault::range_fault::RangeFault;
 use pf_stream::sink::Sink;
 use pf_stream::writing::{WriteFault, write_out};
+use pf_vocabulary::fault::fault::Fault;
+use pf_vocabulary::fault::range_fault::RangeFault;
 
 /// Writes the line of a fault. No memory is taken for it.
 ///

@@ -2,10 +2,10 @@
 ghost use Rattle.std.specs.Prelude.{◌≡◌};
 ghost use Rattle.pf_cli.specs.Noted.{fails_on_some, gone_diff, gone_of};
 
-use pf_fault::status::Status;
-use pf_options::diff_options::DiffOptions;
-use pf_options::fail_on::FailOn;
-use pf_words::task::Task;
+use pf_arguments::task::Task;
+use pf_vocabulary::fault::status::Status;
+use pf_vocabulary::options::diff_options::DiffOptions;
+use pf_vocabulary::options::fail_on::FailOn;
 
 /// The status of a task then: that of a failed stream where a status tells an answer, else that of what was done.
 pub(crate) fn gone_of(task: &Task) -> Status

@@ -1,28 +1,28 @@
 //! A session whose records a journal keeps.
 ghost use Rattle.std.specs.Prelude.{◌≡◌, ◌-◌, ◌^◌, ◌<◌, false, IfSome};
-ghost use Rattle.pf_held.specs.Streams.{streams_of};
-ghost use Rattle.pf_journaled.specs.Faults.{fault_of_adding};
-ghost use Rattle.pf_words.specs.Asked.{desk_named};
+ghost use Rattle.pf_stream.specs.HeldAnswers.Streams.{streams_of};
+ghost use Rattle.pf_journal_file.specs.Faults.{fault_of_adding};
+ghost use Rattle.pf_arguments.specs.Asked.{desk_named};
 ghost use Rattle.pf_cli.specs.Journals.{CameToKept, HasSatOn, HoldsKept};
 
 use crate::ending::{end, tell_text};
 use crate::kept_made::{Made, make_of};
 use crate::sat::{end_sat, outcome_of};
-use pf_fault::ending::Ending;
-use pf_fault::fault::Fault;
-use pf_fault::status::Status;
-use pf_held::hold::hold;
+use pf_arguments::desk_words::DeskWords;
 use pf_journal::journal_error::JournalError;
 use pf_journal_file::journal_fault::JournalFault;
 use pf_journal_file::journals::Journals;
-use pf_journaled::Disk;
-use pf_kept::pipe::Pipe;
-use pf_sitter::files::Locks;
-use pf_sitting::answers::Going;
-use pf_sitting::fault::SitFault;
+use pf_journal_session::Disk;
+use pf_session_turns::files::Locks;
+use pf_stream::dialogue::answers::Going;
+use pf_stream::dialogue::fault::SitFault;
+use pf_stream::held_answers::hold::hold;
+use pf_stream::pipes::pipe::Pipe;
 use pf_stream::sink::Sink;
 use pf_stream::source::Source;
-use pf_words::desk_words::DeskWords;
+use pf_vocabulary::fault::ending::Ending;
+use pf_vocabulary::fault::fault::Fault;
+use pf_vocabulary::fault::status::Status;
 use std::alloc::Global;
 use std::sync::Wait;
 

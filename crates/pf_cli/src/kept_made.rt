@@ -1,10 +1,10 @@
 //! A session with a journal, as it begins.
 ghost use Rattle.std.specs.Prelude.{◌≡◌, ℕ, List, [], not, is_some, IfErr, IfOk, option_map, None};
-ghost use Rattle.pf_journaled.specs.Faults.{IsOutcome};
-ghost use Rattle.pf_journaled.specs.Journaled.{DoesNotBegin as IsNotBegun};
-ghost use Rattle.pf_journaled.specs.Kept.{IsFound};
+ghost use Rattle.pf_journal_file.specs.Faults.{IsOutcome};
+ghost use Rattle.pf_journal_session.specs.Journaled.{DoesNotBegin as IsNotBegun};
+ghost use Rattle.pf_journal.specs.Kept.{IsFound};
 ghost use Rattle.pf_script_notes.specs.Faults.{IsFaultNote};
-ghost use Rattle.pf_words.specs.Asked.{desk_named};
+ghost use Rattle.pf_arguments.specs.Asked.{desk_named};
 ghost use Rattle.pf_cli.specs.Desks.{manner_of};
 ghost use Rattle.pf_cli.specs.Journals.{BeginsOn, DoesNotBeginOn, told_sizes};
 ghost use Rattle.pf_cli.specs.Noted.{OneOf, notes_in};
@@ -13,19 +13,19 @@ use crate::manner::manner_of;
 use crate::noted::Noted;
 use crate::notes::unread_note;
 use crate::script_source::{read_file, told_name};
-use pf_fault::fault::Fault;
+use pf_arguments::desk_words::DeskWords;
 use pf_journal::found::Found;
+use pf_journal::recorder::recorder::Recorder;
 use pf_journal_file::journal_fault::JournalFault;
 use pf_journal_file::journals::{Journals, find_journal};
 use pf_journal_file::sizes::Sizes;
-use pf_journaled::Disk;
-use pf_journaled::begun::{Opened, open_journal};
-use pf_journaled::unopened::Unopened;
-use pf_recorder::recorder::Recorder;
+use pf_journal_session::Disk;
+use pf_journal_session::begun::{Opened, open_journal};
+use pf_journal_session::unopened::Unopened;
 use pf_script_notes::behind_fault::fault_note;
-use pf_sitter::files::{FileSaver, Locks};
-use pf_sitter::sitter::Sitter;
-use pf_words::desk_words::DeskWords;
+use pf_session_turns::files::{FileSaver, Locks};
+use pf_session_turns::sitter::Sitter;
+use pf_vocabulary::fault::fault::Fault;
 use std::alloc::{AllocError, Global};
 
 /// A session with a journal, as it begins.

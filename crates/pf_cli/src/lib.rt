@@ -29,7 +29,7 @@ mod versions;
 
 pub use pf_drill::gate;
 pub use pf_journal_file::host_journals;
-pub use pf_kept::{kept_writer, pipe};
-pub use pf_options::format;
-pub use pf_sitter::files;
+pub use pf_session_turns::files;
+pub use pf_stream::pipes::{kept_writer, pipe};
 pub use pf_stream::{patient, sink, source};
+pub use pf_vocabulary::options::format;

@@ -1,10 +1,10 @@
 //! How a session at a desk answers.
 ghost use Rattle.std.specs.Prelude.{◌≡◌};
-ghost use Rattle.pf_words.specs.Asked.{desk_named};
+ghost use Rattle.pf_arguments.specs.Asked.{desk_named};
 ghost use Rattle.pf_cli.specs.Desks.{manner_of};
 
 use pf_answers::manner::Manner;
-use pf_words::desk_words::DeskWords;
+use pf_arguments::desk_words::DeskWords;
 
 /// How the session answers that words ask for.
 pub(crate) fn manner_of(words: &DeskWords) -> Manner

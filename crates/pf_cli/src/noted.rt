@@ -1,6 +1,6 @@
 use pf_desk::snapshot::Snapshot;
-use pf_fault::ending::Ending;
-use pf_fault::fault::Fault;
+use pf_vocabulary::fault::ending::Ending;
+use pf_vocabulary::fault::fault::Fault;
 
 /// What a task came to, and the notes that are told after it; a fault in their place where they could not be had.
 #[derive(Drop)]

@@ -2,12 +2,12 @@ ghost use Rattle.std.specs.Prelude.{◌≡◌};
 ghost use Rattle.pf_cli.specs.Compared.{pair_noting};
 ghost use Rattle.pf_cli.specs.Noted.{is_followed, noting_behind, noting_of, shown_range};
 
-use pf_fault::ending::Ending;
-use pf_fault::fault::Fault;
-use pf_fault::status::Status;
-use pf_options::format::Format;
-use pf_options::slot_range::SlotRange;
-use pf_words::task::Task;
+use pf_arguments::task::Task;
+use pf_vocabulary::fault::ending::Ending;
+use pf_vocabulary::fault::fault::Fault;
+use pf_vocabulary::fault::status::Status;
+use pf_vocabulary::options::format::Format;
+use pf_vocabulary::options::slot_range::SlotRange;
 
 /// What is to be told of a script after what a task answers to it.
 #[derive(Clone, Copy)]

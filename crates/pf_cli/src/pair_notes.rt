@@ -3,9 +3,9 @@ ghost use Rattle.std.specs.Prelude.{◌≡◌, ◌++◌, [], if◌then◌else◌
 ghost use Rattle.pf_cli.specs.Compared.{JoinsNotes, are_as_large, size_text, sized_text, sizes_line};
 
 use pf_desk::snapshot::Snapshot;
-use pf_fault::fault::Fault;
 use pf_text::file_name::push_file;
 use pf_text::numbers::push_number;
+use pf_vocabulary::fault::fault::Fault;
 use std::alloc::{AllocError, Global};
 
 /// The notes of both: what tells of their sizes, then those of the first, and those of the second.

@@ -1,21 +1,21 @@
 ghost use Rattle.std.specs.Prelude.{◌≡◌, ◌+◌, ◌-◌, ◌^◌, ◌<◌, ◌≤◌, length, IfSome};
 ghost use Rattle.pf_commands.specs.Answers.{Answers};
-ghost use Rattle.pf_fault.specs.Faults.{CountsWrites, IsPastReading};
-ghost use Rattle.pf_plain.specs.Plain.{IsPlain, Plain};
+ghost use Rattle.pf_vocabulary.specs.Fault.Faults.{CountsWrites, IsPastReading};
+ghost use Rattle.pf_plain_script.specs.Plain.{IsPlain, Plain};
 ghost use Rattle.pf_stream.specs.Reading.{TakesAtMost, longest_script};
 ghost use Rattle.pf_cli.specs.Runs.{CountsReadFault, CountsWriteFault, IsUnwrittenUnread, RunsAs, plan_meaning, run_meaning};
 
 use crate::run_fault::RunFault;
 use crate::versions::numbered_fault;
 use pf_commands::run::run as run_script;
-use pf_fault::fault::Fault;
-use pf_names::titles::Titles;
-use pf_options::fail_on::FailOn;
-use pf_options::format::Format;
-use pf_plain::plain::{PlainScript, plain_script};
+use pf_plain_script::plain::{PlainScript, plain_script};
 use pf_stream::reading::{LONGEST_SCRIPT, read_script};
 use pf_stream::sink::Sink;
 use pf_stream::source::Source;
+use pf_vocabulary::fault::fault::Fault;
+use pf_vocabulary::names::titles::Titles;
+use pf_vocabulary::options::fail_on::FailOn;
+use pf_vocabulary::options::format::Format;
 use std::alloc::Global;
 
 /// Runs the script that the reader has: carries it out, and writes its replies and its report in the format. The whole

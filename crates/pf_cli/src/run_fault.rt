@@ -1,6 +1,6 @@
-use pf_fault::fault::Fault;
-use pf_fault::range_fault::RangeFault;
 use pf_stream::reading::ReadingFault;
+use pf_vocabulary::fault::fault::Fault;
+use pf_vocabulary::fault::range_fault::RangeFault;
 use thiserror::Error;
 
 /// Why a script was not run or drilled to its end. It is shown as the line that the program tells of it.

@@ -1,18 +1,18 @@
 //! How a sitting ends.
 ghost use Rattle.std.specs.Prelude.{◌≡◌, ◌-◌, ◌^◌, ◌<◌, Bool, []};
-ghost use Rattle.pf_fault.specs.declared.status.Status.TheVariants.{StreamFailed};
+ghost use Rattle.pf_vocabulary.specs.declared.fault.status.Status.TheVariants.{StreamFailed};
 ghost use Rattle.pf_cli.specs.Desks.{CameTo};
 ghost use Rattle.pf_cli.specs.Noted.{IsTold, status_ended};
 ghost use Rattle.pf_cli.specs.Status.{Tells};
 
 use crate::ending::end;
 use crate::noted::Noted;
-use pf_fault::ending::Ending;
-use pf_fault::fault::Fault;
-use pf_fault::status::Status;
-use pf_sitting::answers::Going;
-use pf_sitting::fault::SitFault;
+use pf_stream::dialogue::answers::Going;
+use pf_stream::dialogue::fault::SitFault;
 use pf_stream::sink::Sink;
+use pf_vocabulary::fault::ending::Ending;
+use pf_vocabulary::fault::fault::Fault;
+use pf_vocabulary::fault::status::Status;
 use std::alloc::Global;
 
 /// Tells what a sitting came to, and answers the status. Where a write failed there since `failed` were counted, nothing is told.

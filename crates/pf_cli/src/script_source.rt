@@ -1,12 +1,12 @@
 ghost use Rattle.std.specs.Prelude.{◌≡◌, ◌⊎◌, ◌-◌, ◌^◌, ◌<◌, ◌≤◌, Err, IfOk, IfSome, IsSome, vec_len};
 ghost use Rattle.pf_stream.specs.Reading.{ReadsScript, longest_script};
 ghost use Rattle.pf_stream.specs.declared.reading.ReadingFault.TheVariants.{Read};
-ghost use Rattle.pf_words.specs.Asked.{name_of};
+ghost use Rattle.pf_arguments.specs.Asked.{name_of};
 ghost use Rattle.pf_cli.specs.Source.{IsHad, IsSource, told_name};
 
-use pf_fault::fault::Fault;
 use pf_stream::reading::{ReadingFault, read_script};
 use pf_stream::source::{CountedReader, Source};
+use pf_vocabulary::fault::fault::Fault;
 use std::fs::File;
 use std::rt::Files;
 

@@ -1,6 +1,6 @@
 use pf_commands::ran::Ran;
-use pf_fault::ending::Ending;
-use pf_fault::fault::Fault;
+use pf_vocabulary::fault::ending::Ending;
+use pf_vocabulary::fault::fault::Fault;
 
 /// How a task ended.
 #[derive(Drop)]

@@ -1,8 +1,8 @@
 ghost use Rattle.std.specs.Prelude.{◌≡◌, ◌-◌, ◌^◌, ◌<◌, ◌≤◌, [], length, Ok, IfOk, IfErr, OnOk, IsSome};
-ghost use Rattle.pf_fault.specs.Faults.{CountsWrites, IsPastReading, IsUnwritten};
-ghost use Rattle.pf_plain.specs.Plain.{IsPlain, Plain};
+ghost use Rattle.pf_vocabulary.specs.Fault.Faults.{CountsWrites, IsPastReading, IsUnwritten};
+ghost use Rattle.pf_plain_script.specs.Plain.{IsPlain, Plain};
 ghost use Rattle.pf_stream.specs.Reading.{longest_script};
-ghost use Rattle.pf_words.specs.Asked.{name_of, names_of};
+ghost use Rattle.pf_arguments.specs.Asked.{name_of, names_of};
 ghost use Rattle.pf_cli.specs.Compared.{DifferenceMade, PairNotes, Shows, ShowsBytes, ShowsPlan};
 ghost use Rattle.pf_cli.specs.Status.{ComparesBehind, ComparesScripts, seen_streams};
 
@@ -13,18 +13,18 @@ use crate::noting::Noting;
 use crate::pair_notes::{join_notes, sizes_note};
 use crate::script_source::{read_source, told_name};
 use crate::versions::numbered_fault;
+use pf_arguments::script_pair::ScriptPair;
 use pf_change::compare::compare;
-use pf_course::at_end::seen_at_end;
 use pf_desk::snapshot::Snapshot;
-use pf_fault::answer::Answer;
-use pf_fault::ending::Ending;
-use pf_fault::fault::Fault;
-use pf_options::diff_options::DiffOptions;
-use pf_plain::plain::{PlainScript, plain_script};
+use pf_plain_script::plain::{PlainScript, plain_script};
+use pf_replies::at_end::seen_at_end;
 use pf_stream::reading::LONGEST_SCRIPT;
 use pf_stream::sink::Sink;
 use pf_stream::source::Source;
-use pf_words::script_pair::ScriptPair;
+use pf_vocabulary::fault::answer::Answer;
+use pf_vocabulary::fault::ending::Ending;
+use pf_vocabulary::fault::fault::Fault;
+use pf_vocabulary::options::diff_options::DiffOptions;
 use std::alloc::{AllocError, Global};
 use std::rt::Files;
 

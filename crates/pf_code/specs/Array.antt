@@ -6,8 +6,8 @@ use Rattle.std.specs.Option.{option_map_or}
 use Rattle.pf_order.specs.declared.pick.Pick.{Pick}
 use Rattle.pf_place.specs.Occupancy.{sitter}
 use Rattle.pf_report.specs.Desk.{Seen}
-use Rattle.pf_names.specs.declared.named.Named.{Named}
-use Rattle.pf_names.specs.declared.titles.Titles.{Titles}
+use Rattle.pf_vocabulary.specs.declared.names.named.Named.{Named}
+use Rattle.pf_vocabulary.specs.declared.names.titles.Titles.{Titles}
 
 -- what stands for processor p: the task that sits on it, 0 for nobody, after a brace or a comma
 abbrev pub seat_with : ℕ → Option Pick → List ℕ

@@ -1,7 +1,7 @@
 -- Worked examples of arrays.
 use Rattle.std.specs.Prelude.{◌≡◌, [], ◌∷◌, ◌++◌, codes}
 use Rattle.pf_scenario.specs.declared.event.Event.TheVariants.{Join}
-use Rattle.pf_names.specs.Titled.{untitled}
+use Rattle.pf_vocabulary.specs.Names.Titled.{untitled}
 use Rattle.pf_run.specs.Examples.{plan_with, three_joins, two_joins}
 use Rattle.pf_report.specs.Examples.{seen_after}
 use Rattle.pf_code.specs.Array.{c_text}

@@ -4,8 +4,8 @@ ghost use Rattle.pf_code.specs.Array.{c_text};
 use crate::lines::{head, push_row};
 use pf_desk::rows::{row_at, row_count};
 use pf_desk::snapshot::Snapshot;
-use pf_names::titles::Titles;
 use pf_text::pieces::{Chain, LONG_PIECE, Pieces, Whole};
+use pf_vocabulary::names::titles::Titles;
 use std::alloc::{AllocError, Global};
 use std::marker::Model;
 

@@ -5,10 +5,10 @@ ghost use Rattle.std.specs.List.{flat_map};
 ghost use Rattle.pf_code.specs.Array.{constants_text, declaration_text, front_text, head_text, name_line, row_text, seat_with, title_text};
 
 use itoa::Buffer;
-use pf_names::named::Named;
-use pf_names::names::Names;
 use pf_order::pick::Pick;
 use pf_place::row_view::RowView;
+use pf_vocabulary::names::named::Named;
+use pf_vocabulary::names::names::Names;
 use std::alloc::{AllocError, Global};
 
 /// Appends a word and a number.

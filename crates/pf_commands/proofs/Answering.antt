@@ -10,25 +10,25 @@ use Rattle.pf_script.specs.Told.{Told, told}
 use Rattle.pf_stream.specs.Written.{CountsOutput, TookFront}
 use Rattle.pf_stream.proofs.Sending.{none_written, took-after, took-before}
 use Rattle.pf_formats.specs.Refusal.{Refusal}
-use Rattle.pf_names.specs.declared.titles.Titles.{Titles}
-use Rattle.pf_recount.specs.Origin.{Origin}
-use Rattle.pf_options.specs.declared.format.Format.{Format}
-use Rattle.pf_options.specs.Formats.{has_replies, range_fault}
-use Rattle.pf_fault.specs.declared.fault.Fault.{Fault}
-use Rattle.pf_fault.specs.declared.fault.Fault.TheVariants as why
+use Rattle.pf_vocabulary.specs.declared.names.titles.Titles.{Titles}
+use Rattle.pf_plain_script.specs.declared.origin.Origin.{Origin}
+use Rattle.pf_vocabulary.specs.declared.options.format.Format.{Format}
+use Rattle.pf_vocabulary.specs.Options.Formats.{has_replies, range_fault}
+use Rattle.pf_vocabulary.specs.declared.fault.fault.Fault.{Fault}
+use Rattle.pf_vocabulary.specs.declared.fault.fault.Fault.TheVariants as why
 use Rattle.pf_stream.specs.declared.output_fault.OutputFault.{OutputFault}
 use Rattle.pf_stream.specs.declared.output_fault.OutputFault.TheVariants.{Write, Memory}
-use Rattle.pf_fault.specs.Faults.{CountsWrites, IsPastReading}
+use Rattle.pf_vocabulary.specs.Fault.Faults.{CountsWrites, IsPastReading}
 use Rattle.pf_stream.specs.Faults.{fault_of_output}
 use Rattle.pf_commands.specs.Answers.{Answers}
-use Rattle.pf_course.specs.Carried.{EndsBy, OpensReplies}
+use Rattle.pf_replies.specs.Carried.{EndsBy, OpensReplies}
 use Rattle.pf_commands.specs.CarriedOut.{CarriesOut}
 use Rattle.pf_commands.specs.Ended.{script_course}
 use Rattle.pf_formats.specs.Report.{report_text}
-use Rattle.pf_course.specs.Course.{ScriptCourse, course_at, outcome_told, replies_told, seen_at, text_if_replies}
+use Rattle.pf_replies.specs.Course.{ScriptCourse, course_at, outcome_told, replies_told, seen_at, text_if_replies}
 use Rattle.pf_commands.specs.Meaning.{Meaning, BadRecord, Done, ended_meaning, report_meaning, script_meaning, text_and_then, told_meaning}
 use Rattle.pf_commands.specs.Refusals.{refusals_for}
-use Rattle.pf_course.proofs.Courses.{seen_there}
+use Rattle.pf_replies.proofs.Courses.{seen_there}
 use Rattle.pf_commands.proofs.Ends.{short_meaning}
 
 -- the answer where a text was stopped

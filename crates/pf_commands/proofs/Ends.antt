@@ -6,20 +6,20 @@ use Rattle.pf_script.specs.declared.record.Record.{Record}
 use Rattle.pf_script.specs.declared.record.Record.TheVariants.{Heading, Settings, Asks}
 use Rattle.pf_script.specs.declared.record.RecordTold.{RecordTold}
 use Rattle.pf_script.specs.declared.record.ScriptSettings.{ScriptSettings}
-use Rattle.pf_carrying.specs.Asked.{commands_in}
+use Rattle.pf_script_desk.specs.Asked.{commands_in}
 use Rattle.pf_script.specs.Places.{record_lines}
 use Rattle.pf_script.specs.Script.{script_records}
 use Rattle.pf_script.specs.Told.{FaultTold, Reading, Good, Bad, Missing, faults, faults_in, first_of, readings, settings_in, settings_or, told}
 use Rattle.pf_script.proofs.Opening.{AreUnopened, beginning}
 use Rattle.pf_formats.specs.Refusal.{Refusal}
-use Rattle.pf_names.specs.declared.titles.Titles.{Titles}
-use Rattle.pf_recount.specs.Origin.{Origin}
-use Rattle.pf_options.specs.declared.format.Format.{Format}
-use Rattle.pf_fault.specs.declared.range_fault.RangeFault.{RangeFault}
-use Rattle.pf_options.specs.Formats.{range_fault}
+use Rattle.pf_vocabulary.specs.declared.names.titles.Titles.{Titles}
+use Rattle.pf_plain_script.specs.declared.origin.Origin.{Origin}
+use Rattle.pf_vocabulary.specs.declared.options.format.Format.{Format}
+use Rattle.pf_vocabulary.specs.declared.fault.range_fault.RangeFault.{RangeFault}
+use Rattle.pf_vocabulary.specs.Options.Formats.{range_fault}
 use Rattle.pf_commands.specs.Laws.{RunsEndAtTheFirstFault, EndsAt, EndsWhole}
 use Rattle.pf_formats.specs.Report.{report_text}
-use Rattle.pf_course.specs.Course.{ScriptCourse, course_behind, fault_number, opening_course, outcome_of, seen_at}
+use Rattle.pf_replies.specs.Course.{ScriptCourse, course_behind, fault_number, opening_course, outcome_of, seen_at}
 use Rattle.pf_commands.specs.Meaning.{Meaning, ended_meaning, report_meaning, script_meaning, text_unless, told_meaning}
 use Rattle.pf_commands.specs.Refusals.{refusals_for}
 

@@ -3,31 +3,31 @@ use Rattle.std.proofs.Common.{◌≡◌, ◌∙◌, ℕ, List, length, Option, N
 use Rattle.std.specs.Io.KnownBytes.{Appends}
 use Rattle.std.proofs.KnownBytes.{Appends-nil, Keeps-refl}
 use Rattle.pf_desk.specs.Desk.{Seen, Shown, StandsForHistory}
-use Rattle.pf_fault.specs.Faults.{CountsWrites}
-use Rattle.pf_fault.specs.declared.ending.Ending.{Ending}
-use Rattle.pf_fault.specs.declared.fault.Fault.{Fault}
-use Rattle.pf_fault.specs.declared.fault.Fault.TheVariants as why
-use Rattle.pf_fault.specs.declared.range_fault.RangeFault.{RangeFault}
+use Rattle.pf_vocabulary.specs.Fault.Faults.{CountsWrites}
+use Rattle.pf_vocabulary.specs.declared.fault.ending.Ending.{Ending}
+use Rattle.pf_vocabulary.specs.declared.fault.fault.Fault.{Fault}
+use Rattle.pf_vocabulary.specs.declared.fault.fault.Fault.TheVariants as why
+use Rattle.pf_vocabulary.specs.declared.fault.range_fault.RangeFault.{RangeFault}
 use Rattle.pf_formats.specs.TaskReport.{task_report_text}
-use Rattle.pf_names.specs.declared.titles.Titles.{Titles}
-use Rattle.pf_options.specs.Formats.{range_fault}
-use Rattle.pf_options.specs.declared.fail_on.FailOn.{FailOn}
-use Rattle.pf_options.specs.declared.format.Format.{Format}
+use Rattle.pf_vocabulary.specs.declared.names.titles.Titles.{Titles}
+use Rattle.pf_vocabulary.specs.Options.Formats.{range_fault}
+use Rattle.pf_vocabulary.specs.declared.options.fail_on.FailOn.{FailOn}
+use Rattle.pf_vocabulary.specs.declared.options.format.Format.{Format}
 use Rattle.pf_script.specs.Told.{told}
 use Rattle.pf_stream.specs.Faults.{fault_of_output}
 use Rattle.pf_stream.specs.Written.{TookFront}
 use Rattle.pf_stream.proofs.Sending.{none_written}
 use Rattle.pf_stream.specs.declared.output_fault.OutputFault.{OutputFault}
-use Rattle.pf_task_words.specs.Finding.{ranges_of, unnamed_in}
-use Rattle.pf_task_words.specs.declared.task_word.TaskWord.{TaskWord}
-use Rattle.pf_tasks.specs.declared.task_range.TaskRange.{TaskRange}
+use Rattle.pf_vocabulary.specs.TaskWords.Finding.{ranges_of, unnamed_in}
+use Rattle.pf_vocabulary.specs.declared.task_words.task_word.TaskWord.{TaskWord}
+use Rattle.pf_vocabulary.specs.declared.tasks.task_range.TaskRange.{TaskRange}
 use Rattle.pf_commands.specs.Answers.{Answers}
-use Rattle.pf_course.specs.Carried.{EndsBy}
-use Rattle.pf_course.specs.Course.{ScriptCourse, course_at, outcome_told, seen_at}
+use Rattle.pf_replies.specs.Carried.{EndsBy}
+use Rattle.pf_replies.specs.Course.{ScriptCourse, course_at, outcome_told, seen_at}
 use Rattle.pf_commands.specs.Meaning.{Done}
 use Rattle.pf_commands.specs.Tasks.{AnswersListed, RunsTasks, tasks_meaning}
 use Rattle.pf_commands.proofs.Answering.{answers_stopped}
-use Rattle.pf_course.proofs.Courses.{seen_there}
+use Rattle.pf_replies.proofs.Courses.{seen_there}
 
 -- Use: the script was carried out.
 pub ended_listed : (format : Format) (titles : Titles) (words : List TaskWord) (on : FailOn) (script : List ℕ) (desk : Shown) (answer : Result Ending Fault) (old new : Option (List ℕ))

@@ -7,19 +7,19 @@ use Rattle.std.proofs.lemmas.List.{append-nil}
 use Rattle.pf_script.specs.Told.{told}
 use Rattle.pf_stream.specs.Reading.{longest_script}
 use Rattle.pf_formats.specs.Refusal.{Refusal}
-use Rattle.pf_names.specs.declared.titles.Titles.{Titles}
-use Rattle.pf_options.specs.declared.format.Format.{Format}
-use Rattle.pf_options.specs.declared.format.Format.TheVariants.{Schedule, Quanta, Windows, Load, Jobs, Trace, C, Full, Html, Tables, Json, Report, Replies, Lags, Misses, Denials, Events, Script, Processors, Stats, Chart, Svg}
-use Rattle.pf_fault.specs.declared.range_fault.RangeFault.{RangeFault}
-use Rattle.pf_options.specs.Formats.{has_replies, range_fault}
-use Rattle.pf_options.specs.Ranges.{is_within, whole}
-use Rattle.pf_fault.specs.declared.fault.Fault.{Fault}
-use Rattle.pf_fault.specs.declared.fault.Fault.TheVariants as why
-use Rattle.pf_fault.specs.Faults.{IsOutside}
+use Rattle.pf_vocabulary.specs.declared.names.titles.Titles.{Titles}
+use Rattle.pf_vocabulary.specs.declared.options.format.Format.{Format}
+use Rattle.pf_vocabulary.specs.declared.options.format.Format.TheVariants.{Schedule, Quanta, Windows, Load, Jobs, Trace, C, Full, Html, Tables, Json, Report, Replies, Lags, Misses, Denials, Events, Script, Processors, Stats, Chart, Svg}
+use Rattle.pf_vocabulary.specs.declared.fault.range_fault.RangeFault.{RangeFault}
+use Rattle.pf_vocabulary.specs.Options.Formats.{has_replies, range_fault}
+use Rattle.pf_vocabulary.specs.Options.Ranges.{is_within, whole}
+use Rattle.pf_vocabulary.specs.declared.fault.fault.Fault.{Fault}
+use Rattle.pf_vocabulary.specs.declared.fault.fault.Fault.TheVariants as why
+use Rattle.pf_vocabulary.specs.Fault.Faults.{IsOutside}
 use Rattle.pf_commands.specs.Answers.{Answers}
 use Rattle.pf_commands.specs.Laws.{NothingIsWrittenOutside}
 use Rattle.pf_formats.specs.Report.{report_text}
-use Rattle.pf_course.specs.Course.{ScriptCourse, outcome_told, replies_told, seen_at, text_if_replies}
+use Rattle.pf_replies.specs.Course.{ScriptCourse, outcome_told, replies_told, seen_at, text_if_replies}
 use Rattle.pf_commands.specs.Meaning.{Meaning, Done, BadRecord, TooLong, Outside, ended_meaning, script_meaning, text_and_then, text_unless, told_meaning}
 use Rattle.pf_commands.specs.Refusals.{refusals_for}
 

@@ -3,10 +3,10 @@ use Rattle.std.proofs.Common.{◌≡◌, ℕ, true, List, [], map, Option, Some,
 use Rattle.std.specs.Prelude.{IfOk, Vec}
 use Rattle.std.specs.declared.alloc.Global.{Global}
 use Rattle.pf_formats.specs.Refusal.{Refusal}
-use Rattle.pf_options.specs.Formats.{tells_refusals}
-use Rattle.pf_options.specs.declared.format.Format.{Format}
-use Rattle.pf_recount.specs.Origin.{Origin}
-use Rattle.pf_recount.specs.Recount.{Recounted, recounted}
+use Rattle.pf_vocabulary.specs.Options.Formats.{tells_refusals}
+use Rattle.pf_vocabulary.specs.declared.options.format.Format.{Format}
+use Rattle.pf_plain_script.specs.declared.origin.Origin.{Origin}
+use Rattle.pf_script_results.specs.Recount.{Recounted, recounted}
 use Rattle.pf_commands.specs.Refusals.{refusal_of, refusals_for}
 
 -- Use: they are those of what the script's records came to.

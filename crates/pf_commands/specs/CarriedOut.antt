@@ -1,13 +1,13 @@
 -- A script that is carried out while its replies are written.
 use Rattle.std.specs.Prelude.{◌≡◌, ℕ, List, Option, Result, Ok, Err}
 use Rattle.std.specs.Io.KnownBytes.{Appends}
-use Rattle.pf_course.specs.Course.{course_at, outcome_told, replies_told, text_if_replies}
+use Rattle.pf_replies.specs.Course.{course_at, outcome_told, replies_told, text_if_replies}
 use Rattle.pf_desk.specs.Desk.{Shown}
 use Rattle.pf_formats.specs.Refusal.{Refusal}
-use Rattle.pf_names.specs.declared.titles.Titles.{Titles}
+use Rattle.pf_vocabulary.specs.declared.names.titles.Titles.{Titles}
 use Rattle.pf_script.specs.Told.{Told}
-use Rattle.pf_options.specs.declared.format.Format.{Format}
-use Rattle.pf_fault.specs.declared.fault.Fault.{Fault}
+use Rattle.pf_vocabulary.specs.declared.options.format.Format.{Format}
+use Rattle.pf_vocabulary.specs.declared.fault.fault.Fault.{Fault}
 use Rattle.pf_commands.specs.Answers.{Answers}
 use Rattle.pf_commands.specs.Meaning.{told_meaning}
 

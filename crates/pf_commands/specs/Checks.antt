@@ -2,12 +2,12 @@
 use Rattle.std.specs.Prelude.{ℕ, ◌≡◌, nat_lt, ◌==◌, if◌then◌else◌, List, [], length, Option, Result, IfOk}
 use Rattle.pf_stream.specs.Reading.{longest_script}
 use Rattle.pf_script.specs.Told.{faults}
-use Rattle.pf_check.specs.Reports.{check_text}
-use Rattle.pf_fault.specs.declared.ending.Ending.{Ending}
-use Rattle.pf_fault.specs.declared.fault.Fault.{Fault}
-use Rattle.pf_fault.specs.declared.status.Status.{Status}
-use Rattle.pf_fault.specs.declared.status.Status.TheVariants.{Done, BadScript}
-use Rattle.pf_fault.specs.Answers.{IsQuiet}
+use Rattle.pf_script.specs.Check.Reports.{check_text}
+use Rattle.pf_vocabulary.specs.declared.fault.ending.Ending.{Ending}
+use Rattle.pf_vocabulary.specs.declared.fault.fault.Fault.{Fault}
+use Rattle.pf_vocabulary.specs.declared.fault.status.Status.{Status}
+use Rattle.pf_vocabulary.specs.declared.fault.status.Status.TheVariants.{Done, BadScript}
+use Rattle.pf_vocabulary.specs.Fault.Answers.{IsQuiet}
 use Rattle.pf_commands.specs.Answers.{Answers}
 use Rattle.pf_commands.specs.Meaning.{Meaning, Done as MeansDone, TooLong}
 

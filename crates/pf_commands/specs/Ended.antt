@@ -5,11 +5,11 @@ use Rattle.pf_run.specs.Computed.{run_of}
 use Rattle.pf_run.specs.RunRows.{denials_in}
 use Rattle.pf_tally.specs.Misses.{misses_of}
 use Rattle.pf_script.specs.Told.{told}
-use Rattle.pf_fault.specs.declared.status.Status.{Status}
-use Rattle.pf_fault.specs.declared.status.Status.TheVariants.{Done, FailedOn}
+use Rattle.pf_vocabulary.specs.declared.fault.status.Status.{Status}
+use Rattle.pf_vocabulary.specs.declared.fault.status.Status.TheVariants.{Done, FailedOn}
 use Rattle.pf_stream.specs.Reading.{longest_script}
-use Rattle.pf_options.specs.declared.fail_on.FailOn.{FailOn}
-use Rattle.pf_course.specs.Course.{ScriptCourse, outcome_told}
+use Rattle.pf_vocabulary.specs.declared.options.fail_on.FailOn.{FailOn}
+use Rattle.pf_replies.specs.Course.{ScriptCourse, outcome_told}
 
 -- how far the script of these bytes is at its end; none where a record is bad, and where it is too long
 unfoldable pub script_course : List ℕ → Option ScriptCourse

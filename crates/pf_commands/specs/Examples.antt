@@ -1,11 +1,11 @@
 -- Worked examples of what scripts mean.
 use Rattle.std.specs.Prelude.{◌≡◌, ℕ, List, [], ◌++◌, Option, Some, None, codes}
-use Rattle.pf_look.specs.Looks.{usual_look}
-use Rattle.pf_names.specs.Titled.{untitled}
-use Rattle.pf_options.specs.declared.format.Format.{Format}
-use Rattle.pf_options.specs.declared.format.Format.TheVariants.{Schedule, Tables, Svg}
-use Rattle.pf_fault.specs.declared.range_fault.RangeFault.TheVariants.{NotWithin}
-use Rattle.pf_options.specs.Ranges.{whole}
+use Rattle.pf_vocabulary.specs.Look.Looks.{usual_look}
+use Rattle.pf_vocabulary.specs.Names.Titled.{untitled}
+use Rattle.pf_vocabulary.specs.declared.options.format.Format.{Format}
+use Rattle.pf_vocabulary.specs.declared.options.format.Format.TheVariants.{Schedule, Tables, Svg}
+use Rattle.pf_vocabulary.specs.declared.fault.range_fault.RangeFault.TheVariants.{NotWithin}
+use Rattle.pf_vocabulary.specs.Options.Ranges.{whole}
 use Rattle.pf_commands.specs.Meaning.{End, Done, BadRecord, Outside, script_meaning}
 
 -- in the format, the script, which has no titles, is a text and ends so

@@ -1,10 +1,10 @@
 -- The laws of checks and runs.
 use Rattle.std.specs.Prelude.{ℕ, ◌≡◌, ◌≤◌, ◌⊎◌, Option, Some, List, [], ◌∷◌, length}
-use Rattle.pf_names.specs.declared.titles.Titles.{Titles}
-use Rattle.pf_recount.specs.Origin.{Origin}
-use Rattle.pf_options.specs.declared.format.Format.{Format}
-use Rattle.pf_fault.specs.declared.range_fault.RangeFault.{RangeFault}
-use Rattle.pf_options.specs.Formats.{range_fault}
+use Rattle.pf_vocabulary.specs.declared.names.titles.Titles.{Titles}
+use Rattle.pf_plain_script.specs.declared.origin.Origin.{Origin}
+use Rattle.pf_vocabulary.specs.declared.options.format.Format.{Format}
+use Rattle.pf_vocabulary.specs.declared.fault.range_fault.RangeFault.{RangeFault}
+use Rattle.pf_vocabulary.specs.Options.Formats.{range_fault}
 use Rattle.pf_stream.specs.Reading.{longest_script}
 use Rattle.pf_script.specs.Told.{FaultTold, faults}
 use Rattle.pf_commands.specs.Meaning.{End, Done, BadRecord, Outside, script_meaning}

@@ -1,14 +1,14 @@
 -- What a script means: a text and an end.
 use Rattle.std.specs.Prelude.{ℕ, nat_lt, if◌then◌else◌, Option, None, Some, Result, Ok, Err, List, [], ◌++◌, length}
-use Rattle.pf_course.specs.Course.{ScriptCourse, outcome_told, replies_told, seen_at, text_if_replies}
+use Rattle.pf_replies.specs.Course.{ScriptCourse, outcome_told, replies_told, seen_at, text_if_replies}
 use Rattle.pf_formats.specs.Refusal.{Refusal}
-use Rattle.pf_recount.specs.Origin.{Origin}
+use Rattle.pf_plain_script.specs.declared.origin.Origin.{Origin}
 use Rattle.pf_stream.specs.Reading.{longest_script}
 use Rattle.pf_script.specs.Told.{Told, told}
-use Rattle.pf_names.specs.declared.titles.Titles.{Titles}
-use Rattle.pf_options.specs.declared.format.Format.{Format}
-use Rattle.pf_fault.specs.declared.range_fault.RangeFault.{RangeFault}
-use Rattle.pf_options.specs.Formats.{range_fault}
+use Rattle.pf_vocabulary.specs.declared.names.titles.Titles.{Titles}
+use Rattle.pf_vocabulary.specs.declared.options.format.Format.{Format}
+use Rattle.pf_vocabulary.specs.declared.fault.range_fault.RangeFault.{RangeFault}
+use Rattle.pf_vocabulary.specs.Options.Formats.{range_fault}
 use Rattle.pf_formats.specs.Report.{report_text}
 use Rattle.pf_commands.specs.Refusals.{refusals_for}
 

@@ -2,11 +2,11 @@
 use Rattle.std.specs.Prelude.{ℕ, true, if◌then◌else◌, Option, List, [], map}
 use Rattle.std.specs.Option.{option_map_or}
 use Rattle.pf_formats.specs.Refusal.{Refusal}
-use Rattle.pf_options.specs.Formats.{tells_refusals}
-use Rattle.pf_options.specs.declared.format.Format.{Format}
-use Rattle.pf_recount.specs.Origin.{Origin}
-use Rattle.pf_recount.specs.Recount.{recounted}
-use Rattle.pf_recount.specs.declared.refused_record.RefusedRecord.{RefusedRecord}
+use Rattle.pf_vocabulary.specs.Options.Formats.{tells_refusals}
+use Rattle.pf_vocabulary.specs.declared.options.format.Format.{Format}
+use Rattle.pf_plain_script.specs.declared.origin.Origin.{Origin}
+use Rattle.pf_script_results.specs.Recount.{recounted}
+use Rattle.pf_script_results.specs.declared.refused_record.RefusedRecord.{RefusedRecord}
 
 -- a refused record, as a report tells of it
 abbrev pub refusal_of : RefusedRecord → Refusal

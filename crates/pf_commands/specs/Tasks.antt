@@ -1,24 +1,24 @@
 -- What a run means of which some tasks alone are shown.
 use Rattle.std.specs.Prelude.{ℕ, ◌≡◌, ◌⊎◌, List, [], ◌++◌, codes, Option, None, Some, Result, Ok, Err, IfOk, IfErr}
 use Rattle.std.specs.Io.KnownBytes.{Keeps}
-use Rattle.pf_fault.specs.declared.ending.Ending.{Ending}
-use Rattle.pf_fault.specs.declared.fault.Fault.{Fault}
-use Rattle.pf_fault.specs.declared.fault.Fault.TheVariants as why
-use Rattle.pf_fault.specs.declared.status.Status.TheVariants.{BadWords}
-use Rattle.pf_fault.specs.Answers.{IsQuiet}
+use Rattle.pf_vocabulary.specs.declared.fault.ending.Ending.{Ending}
+use Rattle.pf_vocabulary.specs.declared.fault.fault.Fault.{Fault}
+use Rattle.pf_vocabulary.specs.declared.fault.fault.Fault.TheVariants as why
+use Rattle.pf_vocabulary.specs.declared.fault.status.Status.TheVariants.{BadWords}
+use Rattle.pf_vocabulary.specs.Fault.Answers.{IsQuiet}
 use Rattle.pf_formats.specs.TaskReport.{task_report_text}
-use Rattle.pf_names.specs.declared.titles.Titles.{Titles}
-use Rattle.pf_options.specs.Formats.{range_fault}
-use Rattle.pf_options.specs.declared.fail_on.FailOn.{FailOn}
-use Rattle.pf_options.specs.declared.format.Format.{Format}
+use Rattle.pf_vocabulary.specs.declared.names.titles.Titles.{Titles}
+use Rattle.pf_vocabulary.specs.Options.Formats.{range_fault}
+use Rattle.pf_vocabulary.specs.declared.options.fail_on.FailOn.{FailOn}
+use Rattle.pf_vocabulary.specs.declared.options.format.Format.{Format}
 use Rattle.pf_script.specs.Told.{told}
-use Rattle.pf_task_words.specs.Finding.{ranges_of, unnamed_in}
-use Rattle.pf_task_words.specs.declared.task_word.TaskWord.{TaskWord}
-use Rattle.pf_tasks.specs.declared.task_range.TaskRange.{TaskRange}
+use Rattle.pf_vocabulary.specs.TaskWords.Finding.{ranges_of, unnamed_in}
+use Rattle.pf_vocabulary.specs.declared.task_words.task_word.TaskWord.{TaskWord}
+use Rattle.pf_vocabulary.specs.declared.tasks.task_range.TaskRange.{TaskRange}
 use Rattle.pf_commands.specs.Answers.{Answers}
-use Rattle.pf_course.specs.Carried.{StopsAt}
+use Rattle.pf_replies.specs.Carried.{StopsAt}
 use Rattle.pf_commands.specs.Ended.{is_failing, run_status}
-use Rattle.pf_course.specs.Course.{ScriptCourse, outcome_told, seen_at}
+use Rattle.pf_replies.specs.Course.{ScriptCourse, outcome_told, seen_at}
 use Rattle.pf_commands.specs.Meaning.{Meaning, text_unless}
 
 -- what is shown of the tasks of these ranges at a course, where the format can be shown of the slots stepped, and else nothing

@@ -1,14 +1,14 @@
 ghost use Rattle.std.specs.Prelude.{◌≡◌, ◌-◌, ◌^◌, ◌<◌, ◌≤◌, length};
-ghost use Rattle.pf_fault.specs.Faults.{CountsWrites, IsPastReading};
+ghost use Rattle.pf_vocabulary.specs.Fault.Faults.{CountsWrites, IsPastReading};
 ghost use Rattle.pf_stream.specs.Reading.{longest_script};
 ghost use Rattle.pf_commands.specs.Checks.{ChecksBytes, check_status};
 
-use pf_check::checker::write_check;
-use pf_fault::ending::Ending;
-use pf_fault::fault::Fault;
-use pf_fault::status::Status;
+use pf_script::check::checker::write_check;
 use pf_stream::output_fault::OutputFault;
 use pf_stream::sink::Sink;
+use pf_vocabulary::fault::ending::Ending;
+use pf_vocabulary::fault::fault::Fault;
+use pf_vocabulary::fault::status::Status;
 use std::alloc::Global;
 
 /// Carries nothing out of a script of these bytes, and writes a line for each record that the format does not allow, and then

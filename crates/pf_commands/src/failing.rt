@@ -1,13 +1,13 @@
 ghost use Rattle.std.specs.Prelude.{◌≡◌, IfOk};
 ghost use Rattle.pf_desk.specs.Views.{lent_reply};
 ghost use Rattle.pf_commands.specs.Ended.{has_denials, has_misses, is_failing, run_status};
-ghost use Rattle.pf_course.specs.Course.{course_at};
+ghost use Rattle.pf_replies.specs.Course.{course_at};
 ghost use Rattle.pf_report.specs.Replies.{is_refusal};
 
 use pf_desk::desk::Desk;
 use pf_desk::reply_view::ReplyView;
-use pf_fault::status::Status;
-use pf_options::fail_on::FailOn;
+use pf_vocabulary::fault::status::Status;
+use pf_vocabulary::options::fail_on::FailOn;
 use std::alloc::AllocError;
 
 /// The status of a run that ended with this desk. The missed windows are in memory only where they are asked for, and nothing else

@@ -1,5 +1,5 @@
 use pf_desk::desk::Desk;
-use pf_fault::ending::Ending;
+use pf_vocabulary::fault::ending::Ending;
 
 /// What a run came to that carried its script out to the end.
 #[derive(Drop)]

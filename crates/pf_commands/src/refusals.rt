@@ -1,18 +1,18 @@
 ghost use Rattle.std.specs.Prelude.{◌≡◌, true, [], Some, map, IfOk};
 ghost use Rattle.std.specs.Option.{option_map};
-ghost use Rattle.pf_recount.specs.Carried.{IsOf};
-ghost use Rattle.pf_recount.specs.Recount.{recounted};
+ghost use Rattle.pf_script_run.specs.Carried.{IsOf};
+ghost use Rattle.pf_script_results.specs.Recount.{recounted};
 ghost use Rattle.pf_script.specs.Told.{told};
 ghost use Rattle.pf_commands.specs.Refusals.{refusal_of, refusals_for};
 
 use pf_desk::desk::Desk;
 use pf_full::refusal::Refusal;
-use pf_names::names::Names;
-use pf_options::format::Format;
-use pf_plain::origin::Origin;
-use pf_recount::recount::Recount;
-use pf_recount::recounting::recount;
-use pf_recount::refused_record::RefusedRecord;
+use pf_plain_script::origin::Origin;
+use pf_script_results::recount::Recount;
+use pf_script_results::recounting::recount;
+use pf_script_results::refused_record::RefusedRecord;
+use pf_vocabulary::names::names::Names;
+use pf_vocabulary::options::format::Format;
 use std::alloc::{AllocError, Global};
 
 /// The records of a script of which a command was refused, where the format tells of them; else none are sought. The desk carried

@@ -1,33 +1,33 @@
 ghost use Rattle.std.specs.Prelude.{◌≡◌, ◌-◌, ◌^◌, ◌<◌, [], None, IfOk, OnOk, OnErr, string_bytes};
 ghost use Rattle.std.specs.Io.KnownBytes.{Appends};
-ghost use Rattle.pf_fault.specs.declared.status.Status.TheVariants.{Done};
-ghost use Rattle.pf_fault.specs.Faults.{CountsWrites};
+ghost use Rattle.pf_vocabulary.specs.declared.fault.status.Status.TheVariants.{Done};
+ghost use Rattle.pf_vocabulary.specs.Fault.Faults.{CountsWrites};
 ghost use Rattle.pf_formats.specs.TaskReport.{task_report_text};
-ghost use Rattle.pf_options.specs.Formats.{range_fault};
+ghost use Rattle.pf_vocabulary.specs.Options.Formats.{range_fault};
 ghost use Rattle.pf_stream.specs.Written.{CountsOutput, TookFront};
 ghost use Rattle.pf_commands.specs.Answers.{Answers};
 ghost use Rattle.pf_commands.specs.Ended.{is_failing, run_status};
-ghost use Rattle.pf_course.specs.Course.{course_at};
+ghost use Rattle.pf_replies.specs.Course.{course_at};
 ghost use Rattle.pf_commands.specs.Tasks.{AnswersListed, IsUnnamed, RunsTasks, tasks_meaning, unnamed_line};
-ghost use Rattle.pf_task_words.specs.Finding.{unnamed_in};
+ghost use Rattle.pf_vocabulary.specs.TaskWords.Finding.{unnamed_in};
 
 use crate::failing::status_of;
 use crate::run::write_whole;
-use pf_course::at_end::desk_at_end;
 use pf_desk::desk::Desk;
 use pf_desk::snapshot::Snapshot;
-use pf_fault::ending::Ending;
-use pf_fault::fault::Fault;
-use pf_fault::status::Status;
 use pf_formats::task_report::task_report_pieces;
-use pf_names::name::Name;
-use pf_names::titles::Titles;
-use pf_options::fail_on::FailOn;
-use pf_options::format::Format;
+use pf_replies::at_end::desk_at_end;
 use pf_stream::output_fault::OutputFault;
 use pf_stream::sink::Sink;
-use pf_task_words::task_words::TaskWords;
-use pf_tasks::task_list::TaskList;
+use pf_vocabulary::fault::ending::Ending;
+use pf_vocabulary::fault::fault::Fault;
+use pf_vocabulary::fault::status::Status;
+use pf_vocabulary::names::name::Name;
+use pf_vocabulary::names::titles::Titles;
+use pf_vocabulary::options::fail_on::FailOn;
+use pf_vocabulary::options::format::Format;
+use pf_vocabulary::task_words::task_words::TaskWords;
+use pf_vocabulary::tasks::task_list::TaskList;
 use std::alloc::{AllocError, Global};
 
 /// Carries out a script of these bytes, and writes what a format without replies shows of the tasks of a list alone: of those whose

@@ -9,3 +9,6 @@ pub mod Working
 pub mod Choosing
 pub mod Examples
 pub mod Arriving
+pub mod ConversionLemmas
+pub mod ListLemmas
+pub mod WordsLemmas

@@ -6,3 +6,6 @@ pub mod Rounding
 pub mod Plans
 pub mod Outcomes
 pub mod Arrivals
+pub mod Conversion
+pub mod List
+pub mod Words

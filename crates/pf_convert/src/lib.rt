@@ -1,13 +1,15 @@
-//! From times to slots: what a list of tasks in nanoseconds comes to in slots of a quantum. Its one contract: costs and
-//! periods lose nothing and are the least and the greatest that do so, and the base is the one with the least load among
-//! those that are named.
+//! A list of tasks told in time made into a script in slots of a quantum: the arithmetic here, the list, the words and the answer in
+//! folders. The one contract of this crate: costs and periods lose nothing and are the least and the greatest that do so, and the base is
+//! the one with the least load among those that are named.
 #![tactic(auto)]
 
 pub mod best_base;
 pub mod best_quantum;
+pub mod conversion;
 pub mod divided;
 pub mod divisors;
 pub mod laws;
+pub mod list;
 pub mod loaded;
 pub mod multiples;
 pub mod outcome;
@@ -18,4 +20,5 @@ pub mod slot_fault;
 pub mod slotted;
 pub mod smooth;
 pub mod timed;
+pub mod words;
 pub mod work;

@@ -6,7 +6,7 @@ use Rattle.std.proofs.lemmas.Bool.{cond-true, cond-false}
 use Rattle.std.proofs.lemmas.List.{append-nil}
 use Rattle.std.proofs.lemmas.List.FromFn.{map-range_with_len_more, filter_of_map_range_with_len_more}
 use Rattle.std.proofs.lemmas.List.Sums.{sum_by_push}
-use Rattle.pf_facts.proofs.Ranges.{range_more}
+use Rattle.pf_lemmas.proofs.Ranges.{range_more}
 use Rattle.pf_run.specs.Inside.{Joined}
 use Rattle.pf_tally.specs.Clock.{Stop, is_stopped}
 use Rattle.pf_tally.specs.declared.held.Held.{Held}

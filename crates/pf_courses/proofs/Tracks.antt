@@ -17,7 +17,7 @@ use Rattle.pf_run.specs.Record.{Slot, done}
 use Rattle.pf_run.specs.Inside.{Joined, join_of, shift_of}
 use Rattle.pf_run.specs.Run.{events_in_force}
 use Rattle.pf_run.specs.Computed.{run_of}
-use Rattle.pf_table.specs.Lists.{noted_of}
+use Rattle.pf_collections.specs.Table.Lists.{noted_of}
 use Rattle.pf_tally.specs.Clock.{is_stopped, clock_of, stops_behind}
 use Rattle.pf_tally.specs.Figures.{processors_in, scaled_at}
 use Rattle.pf_tally.specs.Held.{CanTally, next_in, held_from, stop_of}

@@ -5,8 +5,8 @@ use Rattle.pf_run.specs.Record.{Slot}
 use Rattle.pf_run.specs.Inside.{Joined, join_of}
 use Rattle.pf_run.specs.Run.{events_in_force}
 use Rattle.pf_tally.specs.Lags.{by_task}
-use Rattle.pf_tasks.specs.Listed.{is_listed}
-use Rattle.pf_tasks.specs.declared.task_range.TaskRange.{TaskRange}
+use Rattle.pf_vocabulary.specs.Tasks.Listed.{is_listed}
+use Rattle.pf_vocabulary.specs.declared.tasks.task_range.TaskRange.{TaskRange}
 
 -- the admitted tasks of a list, by number, after the record r of the scenario
 abbrev pub admitted_of : Plan → List Slot → List TaskRange → List Joined

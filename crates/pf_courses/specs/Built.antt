@@ -12,7 +12,7 @@ use Rattle.pf_scenario.specs.declared.event.Numbered.{Numbered}
 use Rattle.pf_run.specs.declared.denied.Denied.{Denied}
 use Rattle.pf_run.specs.Record.{in_force}
 use Rattle.pf_run.specs.Inside.{Joined, count_of}
-use Rattle.pf_table.specs.Lists.{noted_of}
+use Rattle.pf_collections.specs.Table.Lists.{noted_of}
 use Rattle.pf_tally.specs.Clock.{Stop, is_stopped}
 use Rattle.pf_tally.specs.Late.{hold_of, due_at, released_at, is_late}
 use Rattle.pf_tally.specs.declared.held.Held.{Held}

@@ -9,7 +9,7 @@ ghost use Rattle.pf_tally.specs.Figures.{figures_of};
 ghost use Rattle.pf_tally.specs.Load.{overload_of};
 ghost use Rattle.pf_tally.specs.Fit.{IsFirstAbove};
 
-use pf_list::shared_vec::SharedVec;
+use pf_collections::list::shared_vec::SharedVec;
 use pf_place::row_view::RowView;
 use pf_place::rows::Rows;
 use pf_run::denied::Denied;

@@ -7,7 +7,7 @@ use Rattle.std.proofs.lemmas.Grind.{flat_map-append}
 use Rattle.std.proofs.Math.Nat.{le-min}
 use Rattle.std.proofs.lemmas.List.{at_drop_more, append-nil}
 use Rattle.csv.specs.Writing.{row_text, default_writer}
-use Rattle.pf_facts.proofs.Orders.{within_or}
+use Rattle.pf_lemmas.proofs.Orders.{within_or}
 use Rattle.pf_order.specs.declared.pick.Pick.{Pick}
 use Rattle.pf_tally.proofs.Noting.{got_at}
 use Rattle.pf_text.specs.Page.{Page}

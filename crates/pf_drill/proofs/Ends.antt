@@ -1,9 +1,9 @@
 -- How a drill is stopped.
 use Rattle.std.proofs.Common.{◌≡◌, ℕ}
-use Rattle.pf_fault.specs.declared.fault.Fault.{Fault}
-use Rattle.pf_fault.specs.declared.fault.Fault.TheVariants as why
-use Rattle.pf_fault.specs.Faults.{IsUnwritten}
-use Rattle.pf_carrying.specs.Asked.{Asked}
+use Rattle.pf_vocabulary.specs.declared.fault.fault.Fault.{Fault}
+use Rattle.pf_vocabulary.specs.declared.fault.fault.Fault.TheVariants as why
+use Rattle.pf_vocabulary.specs.Fault.Faults.{IsUnwritten}
+use Rattle.pf_script_desk.specs.Asked.{Asked}
 use Rattle.pf_drill.specs.Drilled.{Stops}
 
 -- Use: nothing of it was written.

@@ -3,7 +3,7 @@ use Rattle.std.proofs.Common.{◌≡◌, ℕ, ◌+◌, ◌-◌, List, [], ◌∷
 use Rattle.std.specs.Prelude.{Result, Ok, Err, IfOk}
 use mathlib.Core.List.{IsPrefix}
 use Rattle.atomic_table.specs.Seated.{TableId}
-use Rattle.pf_facts.proofs.Prefixes.{prefix_whole}
+use Rattle.pf_lemmas.proofs.Prefixes.{prefix_whole}
 use Rattle.pf_scenario.specs.System.{System}
 use Rattle.pf_desk.specs.declared.command.Command.{Command}
 use Rattle.pf_desk.specs.declared.entry.Entry.{Entry}

@@ -2,7 +2,7 @@
 use Rattle.std.proofs.Common.{◌≡◌, ℕ, zero, suc, ◌<◌, Bool, true, false, Option, None, Some, List, [], ◌∷◌, ◌++◌, length, refl, ap, sym, subst, ◌∙◌, arith, inl, inr}
 use Rattle.std.specs.Prelude.{All, IfSome, slice_index_or, not, ◌||◌, ◌⊎◌}
 use Rattle.std.specs.List.{list_any}
-use Rattle.pf_facts.proofs.Lists.{at_any}
+use Rattle.pf_lemmas.proofs.Lists.{at_any}
 use Rattle.pf_board.specs.declared.quantum.Quantum.{Quantum}
 use Rattle.pf_drill.specs.declared.worker.Worker.{Worker}
 use Rattle.pf_drill.specs.declared.shift.Shift.{Shift}

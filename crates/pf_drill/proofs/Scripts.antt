@@ -9,11 +9,11 @@ use Rattle.pf_script.specs.declared.fault.ScriptFault.TheVariants as script
 use Rattle.pf_script.specs.declared.opened.OpenedScript.{OpenedScript}
 use Rattle.pf_script.specs.declared.record.LineTold.{LineTold}
 use Rattle.pf_script.specs.Answers.{ReadsLine}
-use Rattle.pf_carrying.specs.Asked.{Asked, BadRecord, Whole, asked_by, asked_up_to, commands_in, commands_of, lines_asked}
+use Rattle.pf_script_desk.specs.Asked.{Asked, BadRecord, Whole, asked_by, asked_up_to, commands_in, commands_of, lines_asked}
 use Rattle.pf_script.specs.Opened.{Opens}
 use Rattle.pf_script.specs.Told.{FaultTold, LinesTold, Told}
-use Rattle.pf_fault.specs.declared.fault.Fault.{Fault}
-use Rattle.pf_fault.specs.declared.fault.Fault.TheVariants as why
+use Rattle.pf_vocabulary.specs.declared.fault.fault.Fault.{Fault}
+use Rattle.pf_vocabulary.specs.declared.fault.fault.Fault.TheVariants as why
 use Rattle.pf_drill.specs.declared.worker.Worker.{Worker}
 use Rattle.pf_script.specs.Faults.{fault_of_script}
 use Rattle.pf_drill.specs.Drilled.{Drills, IsDrill, IsDrilled, IsHalt, Stops}

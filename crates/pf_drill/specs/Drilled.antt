@@ -12,11 +12,11 @@ use Rattle.pf_report.specs.Tables.{schedule_text}
 use Rattle.pf_board.specs.declared.quantum.Quantum.{Quantum}
 use Rattle.pf_board.specs.Quanta.{issues}
 use Rattle.pf_share.specs.Histories.{numbered, quanta_of}
-use Rattle.pf_carrying.specs.Asked.{Asked, Whole, BadRecord, script_asked}
+use Rattle.pf_script_desk.specs.Asked.{Asked, Whole, BadRecord, script_asked}
 use Rattle.pf_stream.specs.Reading.{longest_script}
 use Rattle.pf_stream.specs.Written.{TookFront}
-use Rattle.pf_fault.specs.declared.fault.Fault.{Fault}
-use Rattle.pf_fault.specs.declared.fault.Fault.TheVariants as why
+use Rattle.pf_vocabulary.specs.declared.fault.fault.Fault.{Fault}
+use Rattle.pf_vocabulary.specs.declared.fault.fault.Fault.TheVariants as why
 use Rattle.pf_drill.specs.declared.worker.Worker.{Worker}
 use Rattle.pf_drill.specs.Gates.{Arrived, SomeArrived}
 use Rattle.pf_drill.specs.Taken.{taken_text_of}

@@ -11,7 +11,7 @@ use Rattle.pf_desk.specs.Desk.{Seen, entry_of}
 use Rattle.pf_board.specs.declared.quantum.Quantum.{Quantum}
 use Rattle.pf_board.specs.Quanta.{times, issues}
 use Rattle.pf_board.specs.Passes.{Passing}
-use Rattle.pf_carrying.specs.Asked.{commands_in}
+use Rattle.pf_script_desk.specs.Asked.{commands_in}
 use Rattle.pf_script.specs.Told.{LinesTold}
 use Rattle.pf_share.specs.declared.done.Done.{Done}
 use Rattle.pf_share.specs.Histories.{IsHistory, entries_of, quanta_of}

@@ -1,19 +1,19 @@
 ghost use Rattle.std.specs.Prelude.{IfOk, IfErr};
-ghost use Rattle.pf_fault.specs.declared.status.Status.TheVariants.{Done};
-ghost use Rattle.pf_fault.specs.Answers.{IsQuiet};
-ghost use Rattle.pf_fault.specs.Faults.{IsUnwritten};
+ghost use Rattle.pf_vocabulary.specs.declared.fault.status.Status.TheVariants.{Done};
+ghost use Rattle.pf_vocabulary.specs.Fault.Answers.{IsQuiet};
+ghost use Rattle.pf_vocabulary.specs.Fault.Faults.{IsUnwritten};
 ghost use Rattle.pf_drill.specs.Drilled.{Drills, Stops};
 ghost use Rattle.pf_drill.specs.Gates.{SomeArrived};
-ghost use Rattle.pf_carrying.specs.Asked.{script_asked};
+ghost use Rattle.pf_script_desk.specs.Asked.{script_asked};
 
 use crate::gate::Gate;
 use crate::lines::drill_lines;
 use csv::ByteRecord;
-use pf_fault::answer::Answer;
-use pf_fault::fault::Fault;
 use pf_script::opened::OpenedScript;
 use pf_share::blank::Blank;
 use pf_share::fault::OpenFault;
+use pf_vocabulary::fault::answer::Answer;
+use pf_vocabulary::fault::fault::Fault;
 use std::alloc::Global;
 use std::marker::Brand;
 use std::sync::Wait;

@@ -6,7 +6,7 @@ use Rattle.std.proofs.lemmas.List.{get_or-map, length-map, length-set, get_or-se
 use Rattle.std.proofs.lemmas.List.Elements.{All-nil, All-cons, All-push}
 use Rattle.std.proofs.lemmas.List.Folds.{find_at, map_fixed, list_any_none}
 use Rattle.std.proofs.lemmas.List.Sums.{position_or_len_is}
-use Rattle.pf_table.specs.Grown.{Grown, value_of, size_of, with_value}
+use Rattle.pf_collections.specs.Table.Grown.{Grown, value_of, size_of, with_value}
 use Rattle.pf_admit.specs.declared.member.Member.{Member}
 use Rattle.pf_scenario.proofs.Lists.{find_none}
 use Rattle.pf_engine.specs.Fits.{KeptTask}

@@ -4,7 +4,7 @@ use Rattle.std.proofs.lemmas.Bool.{ne_eqb}
 use Rattle.std.proofs.lemmas.List.{length_push}
 use Rattle.std.proofs.lemmas.List.Elements.{All-weaker, All-map}
 use Rattle.std.proofs.lemmas.List.Folds.{list_any_none}
-use Rattle.pf_facts.proofs.Filters.{filter_map_map}
+use Rattle.pf_lemmas.proofs.Filters.{filter_map_map}
 use Rattle.pf_order.specs.Priority.{Priority}
 use Rattle.pf_order.specs.First.{AreFirst}
 use Rattle.pf_order.specs.declared.pick.Pick.{Pick}

@@ -1,7 +1,7 @@
 -- How a roster keeps its tasks.
 use Rattle.std.specs.Prelude.{◌≡◌, ◌≢◌, ℕ, ◌+◌, ◌<◌, ◌≤◌, All, AllPairs, List, length, slice_index_or}
 use Rattle.pf_weight.specs.declared.task.TheConstants.{LARGEST_TASK}
-use Rattle.pf_table.specs.Grown.{Grown, value_of, size_of}
+use Rattle.pf_collections.specs.Table.Grown.{Grown, value_of, size_of}
 use Rattle.pf_engine.specs.Fits.{KeptTask}
 
 -- at its number, the table has where each of the first n tasks stands, and no two are of one number

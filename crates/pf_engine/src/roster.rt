@@ -2,7 +2,7 @@ ghost use Rattle.std.specs.Prelude.{◌≡◌, ◌+◌, ◌^◌, ◌<◌, ◌≤
 ghost use Rattle.std.specs.Option.{option_copied, ForSome};
 ghost use Rattle.pf_weight.specs.declared.task.TheConstants.{LARGEST_TASK};
 ghost use Rattle.pf_scenario.specs.declared.scenario.TheConstants.{MOST_EVENTS};
-ghost use Rattle.pf_table.specs.Grown.{size_of};
+ghost use Rattle.pf_collections.specs.Table.Grown.{size_of};
 ghost use Rattle.pf_engine.specs.Kept.{member_in, changed_tasks, other_tasks, member_after_delay, member_after_run};
 ghost use Rattle.pf_engine.specs.Places.{IsListedTo, HasNoTask, IsOnlyAt};
 ghost use Rattle.pf_engine.specs.Roll.{AllJoinBelow};
@@ -12,8 +12,8 @@ ghost use Rattle.pf_engine.specs.Engines.{IsInside};
 use crate::kept_task::KeptTask;
 use crate::saved_task::SavedTask;
 use pf_admit::member::Member;
+use pf_collections::table::table::Table;
 use pf_scenario::event::{Event, Numbered};
-use pf_table::table::Table;
 use pf_weight::task::number_of;
 use std::alloc::{AllocError, Global};
 use std::marker::Model;
@@ -28,7 +28,7 @@ pub(crate) struct Roster {
 
 impl Model for Roster {
     ghost use Rattle.std.specs.Prelude.{◌-◌, vec_len, vec_capacity};
-    ghost use Rattle.pf_table.specs.Grown.{size_of};
+    ghost use Rattle.pf_collections.specs.Table.Grown.{size_of};
     ghost use Rattle.pf_engine.specs.Roll.{Roll};
 
     ghost Value = { Roll };

@@ -1,7 +1,7 @@
 -- The items of the tasks with a missed window.
 use Rattle.std.proofs.Common.{◌≡◌, ℕ, List, Option, ap, ◌∙◌, filter_map}
 use Rattle.pf_scenario.specs.Scenario.{Plan}
-use Rattle.pf_table.specs.Grown.{Grown}
+use Rattle.pf_collections.specs.Table.Grown.{Grown}
 use Rattle.pf_tally.specs.declared.miss.Miss.{Miss}
 use Rattle.pf_notes.specs.Absence.{join_among}
 use Rattle.pf_run_notes.specs.Late.{AreLate}

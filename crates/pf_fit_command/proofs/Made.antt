@@ -1,17 +1,17 @@
 -- The answer to a script, of what its desk shows.
 use Rattle.std.proofs.Common.{◌≡◌, ℕ, List, Option, Some, None, length, refl, sym, ap, subst, ◌∙◌}
-use Rattle.pf_recount.specs.Carried.{IsOf, Stops}
+use Rattle.pf_script_run.specs.Carried.{IsOf, Stops}
 use Rattle.pf_desk.specs.Desk.{Seen, Shown, StandsForHistory}
-use Rattle.pf_fault.specs.Answers.{IsQuiet}
-use Rattle.pf_fault.specs.Faults.{IsUnwritten}
-use Rattle.pf_fault.specs.declared.answer.Answer.{Answer}
-use Rattle.pf_fault.specs.declared.fault.Fault.{Fault}
-use Rattle.pf_fault.specs.declared.fault.Fault.TheVariants as why
-use Rattle.pf_fault.specs.declared.status.Status.{Status}
-use Rattle.pf_options.specs.declared.fit_format.FitFormat.{FitFormat}
-use Rattle.pf_names.specs.declared.titles.Titles.{Titles}
-use Rattle.pf_recount.specs.Origin.{Origin}
-use Rattle.pf_recount.specs.Recount.{Recounted, recounted}
+use Rattle.pf_vocabulary.specs.Fault.Answers.{IsQuiet}
+use Rattle.pf_vocabulary.specs.Fault.Faults.{IsUnwritten}
+use Rattle.pf_vocabulary.specs.declared.fault.answer.Answer.{Answer}
+use Rattle.pf_vocabulary.specs.declared.fault.fault.Fault.{Fault}
+use Rattle.pf_vocabulary.specs.declared.fault.fault.Fault.TheVariants as why
+use Rattle.pf_vocabulary.specs.declared.fault.status.Status.{Status}
+use Rattle.pf_vocabulary.specs.declared.options.fit_format.FitFormat.{FitFormat}
+use Rattle.pf_vocabulary.specs.declared.names.titles.Titles.{Titles}
+use Rattle.pf_plain_script.specs.declared.origin.Origin.{Origin}
+use Rattle.pf_script_results.specs.Recount.{Recounted, recounted}
 use Rattle.pf_script.specs.Told.{FaultTold, told}
 use Rattle.pf_verdict.specs.Findings.{Found, findings_of}
 use Rattle.pf_fit_command.specs.Fit.{FitMade, fit_of, most_lines, status_of_verdict, tells_all}

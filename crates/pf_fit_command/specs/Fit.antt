@@ -1,23 +1,23 @@
 -- What `pfair fit` answers to a script.
 use Rattle.std.specs.Prelude.{ℕ, ◌≡◌, ◌+◌, Bool, true, false, Option, Some, List, length}
-use Rattle.pf_recount.specs.Carried.{asked_in}
+use Rattle.pf_script_run.specs.Carried.{asked_in}
 use Rattle.pf_desk.specs.Desk.{Seen, StandsForHistory}
 use Rattle.pf_desk.specs.declared.entry.Entry.{Entry}
-use Rattle.pf_fault.specs.Answers.{IsQuiet}
-use Rattle.pf_fault.specs.declared.answer.Answer.{Answer}
-use Rattle.pf_fault.specs.declared.status.Status.{Status}
-use Rattle.pf_fault.specs.declared.status.Status.TheVariants.{Done, FailedOn}
+use Rattle.pf_vocabulary.specs.Fault.Answers.{IsQuiet}
+use Rattle.pf_vocabulary.specs.declared.fault.answer.Answer.{Answer}
+use Rattle.pf_vocabulary.specs.declared.fault.status.Status.{Status}
+use Rattle.pf_vocabulary.specs.declared.fault.status.Status.TheVariants.{Done, FailedOn}
 use Rattle.pf_fit_text.specs.Json.{Lists, fit_json}
 use Rattle.pf_fit_text.specs.Text.{fit_text}
 use Rattle.pf_fit_text.specs.declared.carried.Carried.{Carried}
-use Rattle.pf_options.specs.declared.fit_format.FitFormat.{FitFormat}
-use Rattle.pf_options.specs.declared.fit_format.FitFormat.TheVariants.{Text, Json}
-use Rattle.pf_names.specs.declared.titles.Titles.{Titles}
-use Rattle.pf_recount.specs.Origin.{Origin}
-use Rattle.pf_recount.specs.Recount.{Recounted, recounted}
+use Rattle.pf_vocabulary.specs.declared.options.fit_format.FitFormat.{FitFormat}
+use Rattle.pf_vocabulary.specs.declared.options.fit_format.FitFormat.TheVariants.{Text, Json}
+use Rattle.pf_vocabulary.specs.declared.names.titles.Titles.{Titles}
+use Rattle.pf_plain_script.specs.declared.origin.Origin.{Origin}
+use Rattle.pf_script_results.specs.Recount.{Recounted, recounted}
 use Rattle.pf_run.specs.Computed.{run_of}
 use Rattle.pf_run_notes.specs.Notes.{lists_text}
-use Rattle.pf_carrying.specs.Asked.{commands_in}
+use Rattle.pf_script_desk.specs.Asked.{commands_in}
 use Rattle.pf_script.specs.Told.{Told, told}
 use Rattle.pf_script.specs.declared.record.ScriptSettings.{ScriptSettings}
 use Rattle.pf_tally.specs.Misses.{misses_of}

@@ -6,7 +6,7 @@ use Rattle.pf_scenario.specs.Scenario.{Plan}
 use Rattle.pf_scenario.specs.declared.event.Numbered.{Numbered}
 use Rattle.pf_run.specs.declared.denied.Denied.{Denied}
 use Rattle.pf_run.specs.Record.{Slot}
-use Rattle.pf_table.specs.Grown.{Grown, value_of}
+use Rattle.pf_collections.specs.Table.Grown.{Grown, value_of}
 use Rattle.pf_tally.specs.declared.miss.Miss.{Miss}
 use Rattle.pf_notes.specs.Absence.{join_among}
 use Rattle.pf_notes.specs.Grounds.{grounds_of}
@@ -16,7 +16,7 @@ use Rattle.pf_run_notes.specs.Late.{count_of_task, firsts_of}
 use Rattle.pf_run_notes.specs.Made.{maker_of}
 use Rattle.pf_run_notes.specs.declared.place.Place.{Place}
 use Rattle.pf_fit_text.specs.Elements.{denied_json, missed_json, refused_json}
-use Rattle.pf_recount.specs.declared.refused_record.RefusedRecord.{RefusedRecord}
+use Rattle.pf_script_results.specs.declared.refused_record.RefusedRecord.{RefusedRecord}
 
 -- items with a comma between them, and one more
 abbrev pub with_item : List ℕ → List ℕ → List ℕ

@@ -1,4 +1,4 @@
-pub use Rattle.pf_recount.specs.Recount
-pub use Rattle.pf_recount.specs.Carried
+pub use Rattle.pf_script_results.specs.Recount
+pub use Rattle.pf_script_results.specs.Carried
 pub mod Fit
 pub mod Items

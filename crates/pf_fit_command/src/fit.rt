@@ -1,25 +1,25 @@
 ghost use Rattle.std.specs.Prelude.{◌≡◌, [], Some, IfOk, IfErr};
 ghost use Rattle.std.specs.Option.{option_map};
-ghost use Rattle.pf_recount.specs.Carried.{IsOf, Stops};
-ghost use Rattle.pf_fault.specs.Faults.{IsUnwritten};
+ghost use Rattle.pf_script_run.specs.Carried.{IsOf, Stops};
+ghost use Rattle.pf_vocabulary.specs.Fault.Faults.{IsUnwritten};
 ghost use Rattle.pf_fit_command.specs.Fit.{FitMade, most_lines, status_of_verdict, tells_all};
-ghost use Rattle.pf_recount.specs.Recount.{recounted};
+ghost use Rattle.pf_script_results.specs.Recount.{recounted};
 ghost use Rattle.pf_script.specs.Told.{told};
 
 use crate::texts::fit_of;
-use pf_carry::carry::carry;
 use pf_desk::desk::Desk;
-use pf_fault::answer::Answer;
-use pf_fault::ending::Ending;
-use pf_fault::fault::Fault;
-use pf_fault::status::Status;
-use pf_names::titles::Titles;
-use pf_options::fit_format::FitFormat;
-use pf_plain::origin::Origin;
-use pf_recount::recount::Recount;
-use pf_recount::recounting::recount;
+use pf_plain_script::origin::Origin;
+use pf_script_results::recount::Recount;
+use pf_script_results::recounting::recount;
+use pf_script_run::carry::carry;
 use pf_verdict::findings::find;
 use pf_verdict::verdict::Verdict;
+use pf_vocabulary::fault::answer::Answer;
+use pf_vocabulary::fault::ending::Ending;
+use pf_vocabulary::fault::fault::Fault;
+use pf_vocabulary::fault::status::Status;
+use pf_vocabulary::names::titles::Titles;
+use pf_vocabulary::options::fit_format::FitFormat;
 use std::alloc::{AllocError, Global};
 
 /// Carries a script of these bytes out, of version 1 or 2, and answers whether it fits, in this format; the file is the name that

@@ -10,13 +10,13 @@ ghost use Rattle.pf_fit_command.specs.Items.{array_text, counted_item, denied_ar
 use pf_desk::snapshot::Snapshot;
 use pf_fit_text::elements::{denied_json, missed_json, refused_json};
 use pf_notes::reasons::Reasons;
-use pf_recount::refused_record::RefusedRecord;
 use pf_run::denied::Denied;
 use pf_run_notes::late::{LateTasks, late_tasks};
 use pf_run_notes::made::Made;
 use pf_run_notes::notes::{event_of, join_of};
 use pf_scenario::event::Event;
 use pf_scenario::scenario::Scenario;
+use pf_script_results::refused_record::RefusedRecord;
 use pf_tally::miss::Miss;
 use std::alloc::{AllocError, Global};
 

@@ -1,7 +1,7 @@
 ghost use Rattle.std.specs.Prelude.{◌≡◌, ◌≤◌, ℕ, List, All, IfOk};
 ghost use Rattle.pf_verdict.specs.Findings.{findings_of};
 ghost use Rattle.pf_fit_command.specs.Fit.{arrays_of, carried_of, fit_of};
-ghost use Rattle.pf_options.specs.declared.fit_format.FitFormat.TheVariants.{Json, Text};
+ghost use Rattle.pf_vocabulary.specs.declared.options.fit_format.FitFormat.TheVariants.{Json, Text};
 
 use crate::items::{denied_array, missed_array, refused_array};
 use pf_desk::snapshot::Snapshot;
@@ -9,11 +9,11 @@ use pf_fit_text::arrays::Arrays;
 use pf_fit_text::carried::Carried;
 use pf_fit_text::json::fit_json;
 use pf_fit_text::text::fit_text;
-use pf_names::titles::Titles;
-use pf_options::fit_format::FitFormat;
-use pf_recount::recount::Recount;
 use pf_run_notes::behind_run::lists;
+use pf_script_results::recount::Recount;
 use pf_verdict::findings::Findings;
+use pf_vocabulary::names::titles::Titles;
+use pf_vocabulary::options::fit_format::FitFormat;
 use std::alloc::{AllocError, Global};
 
 /// The numbers of a snapshot.

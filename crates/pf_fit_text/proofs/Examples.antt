@@ -15,9 +15,9 @@ use Rattle.pf_tally.specs.Clock.{clock_of}
 use Rattle.pf_tally.specs.Figures.{figures_of}
 use Rattle.pf_tally.specs.Misses.{miss_cmp}
 use Rattle.pf_tally.specs.Load.{overload_of}
-use Rattle.pf_names.specs.Titled.{number_label}
-use Rattle.pf_columns.specs.Columns.{width_of, padded_from, without_end_blanks, row_line}
-use Rattle.pf_columns.specs.Decimals.{last_digits, with_places}
+use Rattle.pf_vocabulary.specs.Names.Titled.{number_label}
+use Rattle.pf_text.specs.Columns.Columns.{width_of, padded_from, without_end_blanks, row_line}
+use Rattle.pf_text.specs.Columns.Decimals.{last_digits, with_places}
 use Rattle.pf_verdict.specs.Grow.{least_left, grow_of}
 use Rattle.pf_verdict.specs.Strain.{tightest_of, first_above, above_of}
 use Rattle.pf_fit_text.specs.Cells.{response_cell, time_cell, lag_cell, rate_cell, grow_cell}

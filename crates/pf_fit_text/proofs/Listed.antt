@@ -1,7 +1,7 @@
 -- The tasks of a fit as objects, a task further.
 use Rattle.std.proofs.Common.{◌≡◌, ◌∙◌, ℕ, ◌+◌, ◌<◌, ◌≤◌, Option, List, ◌++◌, length, drop, get_or, refl, sym, ap, ap₂, append_assoc}
 use Rattle.std.proofs.lemmas.List.{append-nil, at_drop_all, at_drop_more}
-use Rattle.pf_names.specs.declared.named.Named.{Named}
+use Rattle.pf_vocabulary.specs.declared.names.named.Named.{Named}
 use Rattle.pf_tally.specs.declared.figures.Figures.{Figures}
 use Rattle.pf_fit_text.specs.Json.{comma_behind, task_json, tasks_from}
 use Rattle.pf_fit_text.specs.Rows.{grow_at}

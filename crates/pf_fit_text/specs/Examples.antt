@@ -5,9 +5,9 @@ use Rattle.pf_scenario.specs.declared.event.Event.TheVariants.{Join, Limit}
 use Rattle.pf_run.specs.RunRows.{rows_in, denials_in}
 use Rattle.pf_run.specs.Examples.{plan_with}
 use Rattle.pf_verdict.specs.Desk.{Seen}
-use Rattle.pf_names.specs.Titled.{untitled}
-use Rattle.pf_names.specs.declared.titles.Titles.{Titles}
-use Rattle.pf_names.specs.declared.unit.Unit.TheVariants.{Microsecond}
+use Rattle.pf_vocabulary.specs.Names.Titled.{untitled}
+use Rattle.pf_vocabulary.specs.declared.names.titles.Titles.{Titles}
+use Rattle.pf_vocabulary.specs.declared.names.unit.Unit.TheVariants.{Microsecond}
 use Rattle.pf_verdict.specs.Findings.{findings_of}
 use Rattle.pf_fit_text.specs.Json.{fit_json}
 use Rattle.pf_fit_text.specs.Text.{fit_text}

@@ -1,7 +1,7 @@
 -- The lines of a fit above and below its table.
 use Rattle.std.specs.Prelude.{ℕ, ◌-◌, ◌/◌, ◌==◌, ◌&&◌, Bool, nat_lt, if◌then◌else◌, Option, None, Some, List, [], ◌++◌, codes}
 use Rattle.std.specs.Fmt.{decimal}
-use Rattle.pf_columns.specs.Decimals.{up}
+use Rattle.pf_text.specs.Columns.Decimals.{up}
 use Rattle.pf_tally.specs.declared.level.Level.{Level}
 use Rattle.pf_verdict.specs.declared.strain.Strain.{Strain}
 use Rattle.pf_verdict.specs.declared.verdict.Verdict.{Verdict}

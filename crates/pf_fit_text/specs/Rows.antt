@@ -3,9 +3,9 @@ use Rattle.std.specs.Prelude.{ℕ, ◌+◌, Bool, if◌then◌else◌, Option, N
 use Rattle.std.specs.Fmt.{decimal}
 use Rattle.std.specs.List.{slice_get}
 use Rattle.std.specs.Option.{is_some, unwrap_or}
-use Rattle.pf_names.specs.declared.named.Named.{Named}
-use Rattle.pf_names.specs.declared.slot_length.SlotLength.{SlotLength}
-use Rattle.pf_columns.specs.Decimals.{up}
+use Rattle.pf_vocabulary.specs.declared.names.named.Named.{Named}
+use Rattle.pf_vocabulary.specs.declared.names.slot_length.SlotLength.{SlotLength}
+use Rattle.pf_text.specs.Columns.Decimals.{up}
 use Rattle.pf_tally.specs.declared.figures.Figures.{Figures}
 use Rattle.pf_fit_text.specs.Cells.{grow_cell, is_named, lag_cell, name_cells, rate_cell, ratio_cell, response_cell, time_cells}
 

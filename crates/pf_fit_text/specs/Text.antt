@@ -1,7 +1,7 @@
 -- A fit as text.
 use Rattle.std.specs.Prelude.{ℕ, List, [], ◌∷◌, ◌++◌, codes, sum_by}
-use Rattle.pf_names.specs.declared.titles.Titles.{Titles}
-use Rattle.pf_columns.specs.Columns.{columns_text}
+use Rattle.pf_vocabulary.specs.declared.names.titles.Titles.{Titles}
+use Rattle.pf_text.specs.Columns.Columns.{columns_text}
 use Rattle.pf_tally.specs.declared.figures.Figures.{Figures}
 use Rattle.pf_verdict.specs.Findings.{Found}
 use Rattle.pf_fit_text.specs.Lines.{counts_line, headline, is_proved_in, overload_text, proved_text}

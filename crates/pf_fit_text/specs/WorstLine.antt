@@ -1,9 +1,9 @@
 -- The last line of a fit: the tasks that came off worst.
 use Rattle.std.specs.Prelude.{ℕ, Option, None, Some, List, [], ◌++◌, codes}
 use Rattle.std.specs.Fmt.{decimal, signed_decimal}
-use Rattle.pf_names.specs.Titled.{label_of}
-use Rattle.pf_names.specs.declared.named.Named.{Named}
-use Rattle.pf_columns.specs.Decimals.{signed_cut}
+use Rattle.pf_vocabulary.specs.Names.Titled.{label_of}
+use Rattle.pf_vocabulary.specs.declared.names.named.Named.{Named}
+use Rattle.pf_text.specs.Columns.Decimals.{signed_cut}
 use Rattle.pf_tally.specs.declared.figures.Figures.{Figures}
 use Rattle.pf_verdict.specs.Totals.{totals_of}
 use Rattle.pf_verdict.specs.Worst.{worst_lag, worst_response}

@@ -1,14 +1,14 @@
 ghost use Rattle.std.specs.Prelude.{◌≡◌, ◌++◌, ◌∷◌, ◌≤◌, [], IfOk, OnOk, decimal, pos};
-ghost use Rattle.pf_columns.specs.Decimals.{up};
+ghost use Rattle.pf_text.specs.Columns.Decimals.{up};
 ghost use Rattle.pf_fit_text.specs.Cells.{grow_cell, lag_cell, name_cells, rate_cell, ratio_cell, response_cell, response_time, time_cell, time_cells, time_of};
 
 use crate::element::push_element;
-use pf_columns::decimals::{push_cut, push_up, push_wide};
-use pf_columns::row::Row;
-use pf_names::names::Names;
-use pf_names::slot_length::SlotLength;
 use pf_tally::extremes::Extremes;
 use pf_tally::figures::Figures;
+use pf_text::columns::decimals::{push_cut, push_up, push_wide};
+use pf_text::columns::row::Row;
+use pf_vocabulary::names::names::Names;
+use pf_vocabulary::names::slot_length::SlotLength;
 use std::alloc::{AllocError, Global};
 
 /// A cost and a period.

@@ -7,13 +7,13 @@ use crate::element::push_element;
 use crate::keys::{push_key, push_key_or_null, push_truth};
 use crate::lines::{is_proved_in, verdict_word};
 use crate::tasks_json::tasks_json;
-use pf_names::slot_length::SlotLength;
-use pf_names::titles::Titles;
 use pf_tally::figures::Figures;
 use pf_tally::level::Level;
 use pf_verdict::findings::Findings;
 use pf_verdict::totals::{Totals, totals_of};
 use pf_verdict::worst::{Rated, worst_lag, worst_response};
+use pf_vocabulary::names::slot_length::SlotLength;
+use pf_vocabulary::names::titles::Titles;
 use std::alloc::{AllocError, Global};
 
 /// Appends the free units of a slot.

@@ -2,8 +2,8 @@ ghost use Rattle.std.specs.Prelude.{◌≡◌, ◌++◌, ◌≤◌, ◌<◌, ◌
 ghost use Rattle.pf_fit_text.specs.Lines.{above_line, counts_line, free_text, headline, is_proved_in, late_line, level_text, overload_text, proved_text, run_line, settings_line, slot_text, tightest_text, verdict_word};
 
 use crate::element::push_element;
-use pf_columns::decimals::push_up;
 use pf_tally::level::Level;
+use pf_text::columns::decimals::push_up;
 use pf_verdict::strain::Strain;
 use pf_verdict::verdict::Verdict;
 use std::alloc::{AllocError, Global};

@@ -1,6 +1,6 @@
 ghost use Rattle.std.specs.Prelude.{◌≡◌, ◌++◌, ◌≤◌, ◌∷◌, [], All, IfOk, OnOk, codes};
 ghost use Rattle.std.specs.Option.{is_some};
-ghost use Rattle.pf_names.specs.Names.{name_of};
+ghost use Rattle.pf_vocabulary.specs.Names.Names.{name_of};
 ghost use Rattle.pf_fit_text.specs.Cells.{is_named};
 ghost use Rattle.pf_fit_text.specs.Rows.{front_cells, grow_at, heading_if, heading_row, table_rows, task_row, with_rates};
 
@@ -8,12 +8,12 @@ use crate::cells::{
     grow_cell, lag_cell, number_cell, push_name, push_time, rate_cell, ratio_cell, response_cell,
     utilization_cell,
 };
-use pf_columns::row::Row;
-use pf_names::names::Names;
-use pf_names::slot_length::SlotLength;
-use pf_names::titles::Titles;
 use pf_tally::figures::Figures;
+use pf_text::columns::row::Row;
 use pf_verdict::findings::Findings;
+use pf_vocabulary::names::names::Names;
+use pf_vocabulary::names::slot_length::SlotLength;
+use pf_vocabulary::names::titles::Titles;
 use std::alloc::{AllocError, Global};
 
 /// Whether the task has a name.

@@ -1,13 +1,13 @@
 ghost use Rattle.std.specs.Prelude.{◌≡◌, ◌++◌, IfOk, OnOk};
-ghost use Rattle.pf_names.specs.Names.{name_of};
+ghost use Rattle.pf_vocabulary.specs.Names.Names.{name_of};
 ghost use Rattle.pf_fit_text.specs.Json.{comma_behind, greatest_of, least_of, name_json, task_front, task_json, tasks_from, with_end, with_middle};
 
 use crate::element::push_element;
 use crate::keys::{push_key, push_key_or_null, push_signed, push_signed_or_null};
 use crate::rows::grow_at;
-use pf_names::names::Names;
 use pf_tally::extremes::Extremes;
 use pf_tally::figures::Figures;
+use pf_vocabulary::names::names::Names;
 use std::alloc::{AllocError, Global};
 
 /// The key of a task's name, or null where it has none.

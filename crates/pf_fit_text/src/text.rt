@@ -4,10 +4,10 @@ ghost use Rattle.pf_fit_text.specs.Text.{fit_text, table_text, tasks_text};
 use crate::lines::{headline, is_proved_in, overload_text, proved_text, push_counts};
 use crate::rows::table_rows;
 use crate::worst_line::worst_line;
-use pf_columns::columns::push_columns;
-use pf_names::titles::Titles;
+use pf_text::columns::columns::push_columns;
 use pf_verdict::findings::Findings;
 use pf_verdict::totals::totals_of;
+use pf_vocabulary::names::titles::Titles;
 use std::alloc::{AllocError, Global};
 
 /// The table and the last line.

@@ -2,12 +2,12 @@ ghost use Rattle.std.specs.Prelude.{◌≡◌, ◌++◌, ◌≤◌, [], All, IfO
 ghost use Rattle.pf_fit_text.specs.WorstLine.{lag_text, moves_text, response_text, worst_lag_text, worst_line, worst_response_text};
 
 use crate::element::push_element;
-use pf_columns::decimals::push_cut;
-use pf_names::names::Names;
-use pf_names::titles::label_of;
 use pf_tally::figures::Figures;
+use pf_text::columns::decimals::push_cut;
 use pf_verdict::totals::{Totals, totals_of};
 use pf_verdict::worst::{Rated, worst_lag, worst_response};
+use pf_vocabulary::names::names::Names;
+use pf_vocabulary::names::titles::label_of;
 use std::alloc::{AllocError, Global};
 
 /// A response in the period, and whose.

@@ -1,6 +1,6 @@
 -- The text of each format.
 use Rattle.std.specs.Prelude.{ℕ, List, [], ◌++◌, codes}
-use Rattle.pf_names.specs.declared.titles.Titles.{Titles}
+use Rattle.pf_vocabulary.specs.declared.names.titles.Titles.{Titles}
 use Rattle.pf_desk.specs.Desk.{Seen}
 use Rattle.pf_report.specs.Tables.{schedule_text, lags_text, misses_text, denials_text}
 use Rattle.pf_report.specs.Part.{schedule_part_text}
@@ -9,7 +9,7 @@ use Rattle.pf_report.specs.Script.{script_text_of}
 use Rattle.pf_report.specs.Json.{json_text}
 use Rattle.pf_report.specs.Quanta.{quanta_text}
 use Rattle.pf_report.specs.Replies.{line_end}
-use Rattle.pf_tasks.specs.Listed.{all_tasks}
+use Rattle.pf_vocabulary.specs.Tasks.Listed.{all_tasks}
 use Rattle.pf_jobs.specs.Jobs.{jobs_text}
 use Rattle.pf_jobs.specs.Load.{load_text}
 use Rattle.pf_windows.specs.Windows.{windows_text}
@@ -22,9 +22,9 @@ use Rattle.pf_stats.specs.Processors.{processors_text}
 use Rattle.pf_stats.specs.Stats.{stats_text}
 use Rattle.pf_chart.specs.Chart.{chart_text_of}
 use Rattle.pf_picture.specs.Picture.{picture_text_of}
-use Rattle.pf_options.specs.declared.format.Format.{Format}
-use Rattle.pf_options.specs.declared.format.Format.TheVariants.{Schedule, Tables, Json, Report, Replies, Lags, Misses, Denials, Events, Script, Processors, Stats, Chart, Svg, Quanta, Windows, Jobs, Load, Trace, C, Full, Html}
-use Rattle.pf_options.specs.Ranges.{end_of, first_of}
+use Rattle.pf_vocabulary.specs.declared.options.format.Format.{Format}
+use Rattle.pf_vocabulary.specs.declared.options.format.Format.TheVariants.{Schedule, Tables, Json, Report, Replies, Lags, Misses, Denials, Events, Script, Processors, Stats, Chart, Svg, Quanta, Windows, Jobs, Load, Trace, C, Full, Html}
+use Rattle.pf_vocabulary.specs.Options.Ranges.{end_of, first_of}
 
 -- a table after a line with its name
 abbrev pub text_under_title : List ℕ → List ℕ → List ℕ

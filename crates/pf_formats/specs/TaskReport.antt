@@ -1,18 +1,18 @@
 -- The text of each format that can show some tasks alone.
 use Rattle.std.specs.Prelude.{ℕ, List, []}
-use Rattle.pf_names.specs.declared.titles.Titles.{Titles}
+use Rattle.pf_vocabulary.specs.declared.names.titles.Titles.{Titles}
 use Rattle.pf_chart.specs.Chart.{task_chart_text_of}
 use Rattle.pf_desk.specs.Desk.{Seen}
 use Rattle.pf_jobs.specs.Jobs.{jobs_text}
-use Rattle.pf_options.specs.Ranges.{end_of, first_of}
-use Rattle.pf_options.specs.declared.format.Format.{Format}
-use Rattle.pf_options.specs.declared.format.Format.TheVariants.{Chart, Jobs, Lags, Misses, Quanta, Stats, Svg, Windows}
+use Rattle.pf_vocabulary.specs.Options.Ranges.{end_of, first_of}
+use Rattle.pf_vocabulary.specs.declared.options.format.Format.{Format}
+use Rattle.pf_vocabulary.specs.declared.options.format.Format.TheVariants.{Chart, Jobs, Lags, Misses, Quanta, Stats, Svg, Windows}
 use Rattle.pf_picture.specs.Picture.{task_picture_text_of}
 use Rattle.pf_report.specs.Quanta.{quanta_text}
 use Rattle.pf_report.specs.Tables.{lags_text, misses_text}
 use Rattle.pf_stats.specs.Stats.{stats_text}
-use Rattle.pf_task_lines.specs.Lines.{listed_text}
-use Rattle.pf_tasks.specs.declared.task_range.TaskRange.{TaskRange}
+use Rattle.pf_vocabulary.specs.TaskLines.Lines.{listed_text}
+use Rattle.pf_vocabulary.specs.declared.tasks.task_range.TaskRange.{TaskRange}
 use Rattle.pf_windows.specs.Windows.{windows_text}
 
 -- what is shown of the tasks of these ranges: their windows, their jobs, or their lines of a table, whose tasks stand in its first

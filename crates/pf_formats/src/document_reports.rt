@@ -13,12 +13,12 @@ use pf_code::array::c_pieces;
 use pf_desk::snapshot::Snapshot;
 use pf_full::full::full_pieces;
 use pf_full::refusal::Refusal;
-use pf_names::titles::Titles;
 use pf_page::page::page_pieces;
 use pf_report::json::json_pieces;
 use pf_report::script::script_pieces;
 use pf_text::pieces::{Chain, Whole};
 use pf_trace::trace::trace_pieces;
+use pf_vocabulary::names::titles::Titles;
 use std::alloc::{AllocError, Global};
 
 /// The JSON object, as a line.

@@ -1,12 +1,12 @@
 ghost use Rattle.std.specs.Prelude.{◌≡◌, ◌≤◌, true, IfOk};
 ghost use Rattle.pf_chart.specs.Chart.{chart_text_of};
 ghost use Rattle.pf_jobs.specs.Load.{load_text};
-ghost use Rattle.pf_look.specs.declared.wrap.TheConstants.{MOST_SLOTS};
-ghost use Rattle.pf_options.specs.Ranges.{end_of, first_of, is_within, slots_of};
+ghost use Rattle.pf_vocabulary.specs.declared.look.wrap.TheConstants.{MOST_SLOTS};
+ghost use Rattle.pf_vocabulary.specs.Options.Ranges.{end_of, first_of, is_within, slots_of};
 ghost use Rattle.pf_picture.specs.Picture.{picture_text_of};
 ghost use Rattle.pf_report.specs.Part.{schedule_part_text};
 ghost use Rattle.pf_report.specs.Quanta.{quanta_text};
-ghost use Rattle.pf_tasks.specs.Listed.{all_tasks};
+ghost use Rattle.pf_vocabulary.specs.Tasks.Listed.{all_tasks};
 ghost use Rattle.pf_windows.specs.Windows.{windows_text};
 ghost use Rattle.pf_formats.specs.Left.{text_left};
 
@@ -14,13 +14,13 @@ use crate::report_pieces::ReportPieces;
 use pf_chart::chart::chart_pieces;
 use pf_desk::snapshot::Snapshot;
 use pf_jobs::load::load_pieces;
-use pf_look::look::Look;
-use pf_names::titles::Titles;
-use pf_options::slot_range::SlotRange;
 use pf_picture::picture::picture_pieces;
 use pf_report::quanta::quanta_pieces;
 use pf_report::schedule_part::schedule_part_pieces;
-use pf_tasks::task_list::TaskList;
+use pf_vocabulary::look::look::Look;
+use pf_vocabulary::names::titles::Titles;
+use pf_vocabulary::options::slot_range::SlotRange;
+use pf_vocabulary::tasks::task_list::TaskList;
 use pf_windows::windows::window_pieces;
 use std::alloc::{AllocError, Global};
 

@@ -1,5 +1,5 @@
 ghost use Rattle.std.specs.Prelude.{◌≡◌, None, IfOk};
-ghost use Rattle.pf_options.specs.Formats.{range_fault};
+ghost use Rattle.pf_vocabulary.specs.Options.Formats.{range_fault};
 ghost use Rattle.pf_formats.specs.Left.{text_left};
 ghost use Rattle.pf_formats.specs.Report.{report_text};
 
@@ -11,9 +11,9 @@ use crate::table_reports::{
 };
 use pf_desk::snapshot::Snapshot;
 use pf_full::refusal::Refusal;
-use pf_names::titles::Titles;
-use pf_options::format::Format;
 use pf_text::pieces::Whole;
+use pf_vocabulary::names::titles::Titles;
+use pf_vocabulary::options::format::Format;
 use std::alloc::{AllocError, Global};
 
 /// What stands after all replies in a format, in pieces. The format can be shown of the slots stepped, `every` is the distance

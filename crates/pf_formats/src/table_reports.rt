@@ -4,7 +4,7 @@ ghost use Rattle.pf_report.specs.Events.{events_text};
 ghost use Rattle.pf_report.specs.Tables.{denials_text, lags_text, misses_text};
 ghost use Rattle.pf_stats.specs.Processors.{processors_text};
 ghost use Rattle.pf_stats.specs.Stats.{stats_text};
-ghost use Rattle.pf_tasks.specs.Listed.{all_tasks};
+ghost use Rattle.pf_vocabulary.specs.Tasks.Listed.{all_tasks};
 ghost use Rattle.pf_formats.specs.Left.{text_left};
 ghost use Rattle.pf_formats.specs.Report.{tables_text};
 
@@ -12,15 +12,15 @@ use crate::report_pieces::ReportPieces;
 use crate::tables::tables_pieces;
 use pf_desk::snapshot::Snapshot;
 use pf_jobs::jobs::job_pieces;
-use pf_names::titles::Titles;
 use pf_report::denials::denial_pieces;
 use pf_report::events::events_csv;
 use pf_report::lags::lag_pieces;
 use pf_report::misses::miss_pieces;
 use pf_stats::processors::processors_csv;
 use pf_stats::stats::stats_csv;
-use pf_tasks::task_list::TaskList;
 use pf_text::pieces::Whole;
+use pf_vocabulary::names::titles::Titles;
+use pf_vocabulary::tasks::task_list::TaskList;
 use std::alloc::{AllocError, Global};
 
 /// The four tables, each after a line with its name.

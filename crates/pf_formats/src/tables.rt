@@ -2,13 +2,13 @@ ghost use Rattle.std.specs.Prelude.{◌≡◌, ◌++◌, ℕ, List, IfOk};
 ghost use Rattle.pf_formats.specs.Report.{tables_text};
 
 use pf_desk::snapshot::Snapshot;
-use pf_names::titles::Titles;
 use pf_report::denials::{DenialPieces, denial_pieces};
 use pf_report::lags::{LagPieces, pieces_of_lags};
 use pf_report::misses::{MissPieces, pieces_of_misses};
 use pf_report::schedule::{SchedulePieces, schedule_pieces};
 use pf_tally::tally::Tally;
 use pf_text::pieces::{Chain, Pieces, Whole};
+use pf_vocabulary::names::titles::Titles;
 use std::alloc::{AllocError, Global};
 
 /// A line with a name, and a table.

@@ -4,8 +4,8 @@ use pf_picture::picture::PicturePieces;
 use pf_report::lags::LagPieces;
 use pf_report::misses::MissPieces;
 use pf_report::quanta::QuantaPieces;
-use pf_task_lines::listed_lines::ListedLines;
 use pf_text::pieces::{Pieces, Whole};
+use pf_vocabulary::task_lines::listed_lines::ListedLines;
 use pf_windows::windows::WindowPieces;
 use std::alloc::{AllocError, Global};
 

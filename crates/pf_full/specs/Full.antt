@@ -16,7 +16,7 @@ use Rattle.pf_tally.specs.Figures.{figures_of}
 use Rattle.pf_tally.specs.Lags.{lags_of}
 use Rattle.pf_tally.specs.Misses.{misses_of}
 use Rattle.pf_desk.specs.Desk.{Seen}
-use Rattle.pf_names.specs.declared.titles.Titles.{Titles}
+use Rattle.pf_vocabulary.specs.declared.names.titles.Titles.{Titles}
 use Rattle.pf_report.specs.Json.{array_data, count_data, denial_data, lag_data, miss_data, names_before, sitter_data, slot_member}
 use Rattle.pf_run_notes.specs.Refusals.{fault_code, fault_name}
 use Rattle.pf_full.specs.declared.event_numbers.EventNumbers.{EventNumbers}

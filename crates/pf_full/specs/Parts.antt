@@ -7,7 +7,7 @@ use Rattle.pf_tally.specs.Figures.{figures_of}
 use Rattle.pf_tally.specs.Lags.{lags_of}
 use Rattle.pf_tally.specs.Misses.{misses_of}
 use Rattle.pf_desk.specs.Desk.{Seen}
-use Rattle.pf_names.specs.declared.titles.Titles.{Titles}
+use Rattle.pf_vocabulary.specs.declared.names.titles.Titles.{Titles}
 use Rattle.pf_report.specs.Json.{array_data, lag_data, miss_data, names_part, sitter_data, slot_part}
 use Rattle.pf_full.specs.Full.{event_data, figures_data, refusal_data, settings_data}
 use Rattle.pf_full.specs.declared.refusal.Refusal.{Refusal}

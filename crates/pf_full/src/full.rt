@@ -13,7 +13,6 @@ use crate::refusal::{Refusal, RefusalRows};
 use crate::settings::settings_text;
 use crate::titles::{names_part, slot_part};
 use pf_desk::snapshot::Snapshot;
-use pf_names::titles::Titles;
 use pf_report::denials::DenialRows;
 use pf_report::elements::{ArrayPieces, Elements};
 use pf_report::lags::LagRows;
@@ -22,6 +21,7 @@ use pf_report::schedule::ScheduleRows;
 use pf_tally::tally::Tally;
 use pf_text::numbers::push_number;
 use pf_text::pieces::{Chain, Pieces, Whole};
+use pf_vocabulary::names::titles::Titles;
 use std::alloc::{AllocError, Global};
 
 /// A key of an object, an array, and what follows.

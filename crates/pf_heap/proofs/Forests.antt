@@ -6,7 +6,7 @@ use Rattle.std.proofs.lemmas.Cmp.{upto, tied_itself}
 use Rattle.std.specs.declared.cmp.Ordering.{Ordering}
 use Rattle.std.specs.declared.cmp.Ordering.TheVariants.{Less, Equal, Greater}
 use Rattle.std.specs.Ordering.{is_lt, is_gt, ordering_reverse}
-use Rattle.pf_facts.proofs.Orders.{not_both}
+use Rattle.pf_lemmas.proofs.Orders.{not_both}
 use Rattle.pf_order.specs.Priority.{Priority, precedes, priority_cmp}
 use Rattle.pf_order.proofs.Order.{priority_cmp_total}
 use Rattle.pf_heap.specs.Forest.{Forest, none, tree, forest_weight, same, size, IsBelow, AllBelow, Falls, Rises, IsTreeOrNone, some}

@@ -8,7 +8,7 @@ use Rattle.std.proofs.lemmas.Grind.{flat_map-append}
 use Rattle.std.proofs.lemmas.List.{append-nil, take_all}
 use Rattle.std.proofs.lemmas.List.Concat.{flat_map-cons}
 use Rattle.std.proofs.lemmas.List.Elements.{filter_more}
-use Rattle.pf_facts.proofs.Ranges.{flat_map_agree}
+use Rattle.pf_lemmas.proofs.Ranges.{flat_map_agree}
 use Rattle.pf_window.specs.Window.{release_of, deadline_of}
 use Rattle.pf_scenario.specs.Scenario.{Plan}
 use Rattle.pf_scenario.specs.Edit.{IsScenario}
@@ -20,7 +20,7 @@ use Rattle.pf_run.specs.Run.{events_in_force}
 use Rattle.pf_run.specs.Computed.{run_of}
 use Rattle.pf_tally.specs.Figures.{last_slot}
 use Rattle.pf_tally.specs.Held.{CanTally, next_in, held_from}
-use Rattle.pf_table.specs.Lists.{noted_of}
+use Rattle.pf_collections.specs.Table.Lists.{noted_of}
 use Rattle.pf_tally.specs.Lags.{by_task}
 use Rattle.pf_tally.specs.Late.{due_at}
 use Rattle.pf_tally.specs.Ledger.{IsLedger}
@@ -34,10 +34,10 @@ use Rattle.pf_tally.proofs.Ledgers.{task_diary, task_ran}
 use Rattle.pf_tally.proofs.Missing.{due_is}
 use Rattle.pf_tally.proofs.Own.{shift_own}
 use Rattle.pf_tally.proofs.Subs.{ran_is}
-use Rattle.pf_tasks.specs.Listed.{is_listed}
-use Rattle.pf_tasks.specs.declared.task_range.TaskRange.{TaskRange}
-use Rattle.pf_names.specs.declared.titles.Titles.{Titles}
-use Rattle.pf_name_column.specs.Column.{name_fields, with_name}
+use Rattle.pf_vocabulary.specs.Tasks.Listed.{is_listed}
+use Rattle.pf_vocabulary.specs.declared.tasks.task_range.TaskRange.{TaskRange}
+use Rattle.pf_vocabulary.specs.declared.names.titles.Titles.{Titles}
+use Rattle.pf_vocabulary.specs.NameColumn.Column.{name_fields, with_name}
 use Rattle.pf_text.specs.Page.{Page, with_record}
 use Rattle.pf_text.specs.Sheets.{AddsAtMostOne}
 use Rattle.pf_jobs.specs.Ran.{NamedRan, Ran, ran_by}

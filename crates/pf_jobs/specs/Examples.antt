@@ -5,8 +5,8 @@ use Rattle.pf_scenario.specs.declared.event.Event.TheVariants.{Join, Leave, Dela
 use Rattle.pf_run.specs.RunRows.{rows_in, denials_in}
 use Rattle.pf_run.specs.Examples.{plan_with}
 use Rattle.pf_desk.specs.Desk.{Seen}
-use Rattle.pf_names.specs.Titled.{untitled}
-use Rattle.pf_tasks.specs.Listed.{all_tasks}
+use Rattle.pf_vocabulary.specs.Names.Titled.{untitled}
+use Rattle.pf_vocabulary.specs.Tasks.Listed.{all_tasks}
 use Rattle.pf_jobs.specs.Jobs.{jobs_text}
 use Rattle.pf_jobs.specs.Load.{load_text}
 

@@ -15,9 +15,9 @@ use Rattle.pf_tally.specs.Late.{due_at, released_at}
 use Rattle.pf_tally.specs.Misses.{due_of, ran_in}
 use Rattle.pf_courses.specs.Admitted.{admitted_of}
 use Rattle.pf_desk.specs.Desk.{Seen}
-use Rattle.pf_names.specs.declared.titles.Titles.{Titles}
-use Rattle.pf_name_column.specs.Column.{name_heading, with_name}
-use Rattle.pf_tasks.specs.declared.task_range.TaskRange.{TaskRange}
+use Rattle.pf_vocabulary.specs.declared.names.titles.Titles.{Titles}
+use Rattle.pf_vocabulary.specs.NameColumn.Column.{name_heading, with_name}
+use Rattle.pf_vocabulary.specs.declared.tasks.task_range.TaskRange.{TaskRange}
 use Rattle.pf_tally.specs.declared.held.Held.{Held}
 use Rattle.pf_text.specs.Page.{table_text}
 use Rattle.pf_jobs.specs.Ran.{NamedRan, Ran}

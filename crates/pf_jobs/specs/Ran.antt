@@ -2,7 +2,7 @@
 -- number of slots where it did not leave, and that number.
 use Rattle.std.specs.Prelude.{ℕ, List}
 use Rattle.pf_scenario.specs.declared.event.Numbered.{Numbered}
-use Rattle.pf_names.specs.declared.titles.Titles.{Titles}
+use Rattle.pf_vocabulary.specs.declared.names.titles.Titles.{Titles}
 use Rattle.pf_run.specs.Inside.{Joined}
 use Rattle.pf_tally.specs.Held.{next_in, held_from}
 use Rattle.pf_tally.specs.Figures.{last_slot}

@@ -2,20 +2,20 @@ ghost use Rattle.std.specs.Prelude.{◌≡◌, ◌++◌, ◌^◌, ◌<◌, [], I
 ghost use Rattle.std.specs.List.{flat_map};
 ghost use Rattle.pf_run.specs.Computed.{run_of};
 ghost use Rattle.pf_text.specs.Page.{with_record};
-ghost use Rattle.pf_name_column.specs.Column.{name_fields};
+ghost use Rattle.pf_vocabulary.specs.NameColumn.Column.{name_fields};
 ghost use Rattle.pf_jobs.specs.Jobs.{finish_fields, job_record, jobs_records, jobs_text, named_behind_job};
 
 use crate::job::Job;
 use crate::task_run::TaskRun;
 use pf_desk::snapshot::Snapshot;
-use pf_name_column::column::{push_heading, show_name};
-use pf_names::titles::Titles;
 use pf_tally::admitted::admitted_by_number;
 use pf_tally::ledger::make_ledger;
-use pf_tasks::task_list::TaskList;
 use pf_text::pieces::{Chain, Whole};
 use pf_text::sheets::{Sheet, SheetPieces};
 use pf_text::table::Table;
+use pf_vocabulary::name_column::column::{push_heading, show_name};
+use pf_vocabulary::names::titles::Titles;
+use pf_vocabulary::tasks::task_list::TaskList;
 use std::alloc::{AllocError, Global};
 use std::marker::Model;
 

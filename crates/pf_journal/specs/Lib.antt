@@ -3,3 +3,4 @@ pub mod Texts
 pub mod Crash
 pub mod Kept
 pub mod Batches
+pub mod Recorder

@@ -3,12 +3,12 @@ use Rattle.std.specs.Prelude.{⊤, ℕ, ◌≡◌, Bool, true, List, [], ◌++�
 use Rattle.std.specs.Fmt.{decimal}
 use Rattle.std.specs.declared.io.ErrorKind.{ErrorKind}
 use Rattle.std.specs.declared.io.ErrorKind.TheVariants as kind
-use Rattle.pf_fault.specs.declared.ending.Ending.{Ending}
-use Rattle.pf_fault.specs.declared.fault.Fault.{Fault}
-use Rattle.pf_fault.specs.declared.fault.Fault.TheVariants as why
-use Rattle.pf_fault.specs.declared.status.Status.{Status}
-use Rattle.pf_fault.specs.declared.status.Status.TheVariants as status
-use Rattle.pf_fault_notes.specs.FileFaults.{file_fault_line, file_fault_of}
+use Rattle.pf_vocabulary.specs.declared.fault.ending.Ending.{Ending}
+use Rattle.pf_vocabulary.specs.declared.fault.fault.Fault.{Fault}
+use Rattle.pf_vocabulary.specs.declared.fault.fault.Fault.TheVariants as why
+use Rattle.pf_vocabulary.specs.declared.fault.status.Status.{Status}
+use Rattle.pf_vocabulary.specs.declared.fault.status.Status.TheVariants as status
+use Rattle.pf_script.specs.FaultNotes.FileFaults.{file_fault_line, file_fault_of}
 use Rattle.pf_journal.specs.declared.journal_error.JournalError.{JournalError}
 use Rattle.pf_journal.specs.declared.journal_error.JournalError.TheVariants as error
 use Rattle.pf_journal_file.specs.declared.journal_fault.JournalFault.{JournalFault}

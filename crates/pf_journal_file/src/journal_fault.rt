@@ -1,15 +1,15 @@
 ghost use Rattle.std.specs.Prelude.{◌≡◌, ◌++◌, IfOk, OnOk};
-ghost use Rattle.pf_fault_notes.specs.FileFaults.{file_fault_line, file_fault_of};
+ghost use Rattle.pf_script.specs.FaultNotes.FileFaults.{file_fault_line, file_fault_of};
 ghost use Rattle.pf_journal_file.specs.Faults.{IsOutcome, IsUnhad, beside, damaged_line, fault_of_adding, fault_of_kind, fault_of_opening, fault_text, named_line, no_heading_line, note_behind, numbered_text, status_of};
 
 use crate::journals::OpenFault;
-use pf_fault::ending::Ending;
-use pf_fault::fault::Fault;
-use pf_fault::status::Status;
-use pf_fault_notes::file_fault::{FileFault, file_fault_line};
 use pf_journal::journal_error::JournalError;
+use pf_script::fault_notes::file_fault::{FileFault, file_fault_line};
 use pf_text::file_name::push_file;
 use pf_text::numbers::push_number;
+use pf_vocabulary::fault::ending::Ending;
+use pf_vocabulary::fault::fault::Fault;
+use pf_vocabulary::fault::status::Status;
 use std::alloc::{AllocError, Global};
 use std::io::ErrorKind;
 

@@ -7,7 +7,7 @@ use Rattle.std.proofs.lemmas.List.{take_all, take_more}
 use Rattle.std.proofs.lemmas.List.Elements.{filter_map-append}
 use Rattle.std.proofs.lemmas.List.Sums.{sum_by-cons}
 use Rattle.std.proofs.lemmas.List.Sorted.{list_any-IsPermutation}
-use Rattle.pf_facts.proofs.Finding.{missed_any, find-filter}
+use Rattle.pf_lemmas.proofs.Finding.{missed_any, find-filter}
 use Rattle.pf_weight.specs.Share.{share_of}
 use Rattle.pf_scenario.specs.Event.{is_join_of, is_leave_of}
 use Rattle.pf_scenario.specs.declared.event.Event.{Event}

@@ -2,7 +2,7 @@
 use Rattle.std.proofs.Common.{◌≡◌, ℕ, zero, suc, ◌+◌, ◌-◌, ◌<◌, ◌≤◌, Bool, true, false, nat_le, nat_lt, Option, None, Some, List, sym, ap, ◌∙◌, ⊎_elim, arith}
 use Rattle.std.proofs.lemmas.Bool.{cases_Bool, cases_eq, cond-true, cond-false}
 use Rattle.std.proofs.lemmas.Bool.Decides.{nat_tests}
-use Rattle.pf_facts.proofs.Options.{some_is}
+use Rattle.pf_lemmas.proofs.Options.{some_is}
 use Rattle.pf_scenario.specs.Scenario.{Plan}
 use Rattle.pf_admit.specs.Member.{free_from}
 use Rattle.pf_admit.specs.declared.denial.Denial.TheVariants.{TooEarly}

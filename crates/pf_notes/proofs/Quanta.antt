@@ -9,7 +9,7 @@ use Rattle.std.proofs.lemmas.List.{take_more, take-take, length-take-le}
 use Rattle.std.proofs.lemmas.List.Sorted.{list_any-IsPermutation, All-permutation}
 use Rattle.std.proofs.lemmas.List.Elements.{All-map, All-weaker}
 use Rattle.std.proofs.lemmas.List.Sums.{sum_by_push, count_by-le-length}
-use Rattle.pf_facts.proofs.Finding.{found_all, found_passes, missed_any}
+use Rattle.pf_lemmas.proofs.Finding.{found_all, found_passes, missed_any}
 use Rattle.pf_order.specs.Priority.{Priority}
 use Rattle.pf_order.specs.declared.pick.Pick.{Pick}
 use Rattle.pf_place.specs.Occupancy.{sitters}

@@ -7,7 +7,7 @@ use Rattle.std.proofs.lemmas.List.Folds.{find_at}
 use Rattle.std.proofs.lemmas.List.{append-nil, append_assoc, take-append-drop, length-take}
 use Rattle.std.proofs.lemmas.List.Elements.{All-filter, All-take, All-append, All-nil, All-cons, Contains-get_or}
 use Rattle.std.proofs.lemmas.List.Sorted.{list_any-IsPermutation}
-use Rattle.pf_facts.proofs.Finding.{found_all, found_passes}
+use Rattle.pf_lemmas.proofs.Finding.{found_all, found_passes}
 use Rattle.pf_order.specs.declared.pick.Pick.{Pick}
 use Rattle.pf_admit.specs.Member.{free_from}
 use Rattle.pf_scenario.specs.Event.{slot_of, is_leave_of}

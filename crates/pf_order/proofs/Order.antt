@@ -7,7 +7,7 @@ use Rattle.std.specs.Cmp.{IsTotalOrder, nat_cmp_total}
 use Rattle.std.specs.declared.cmp.Ordering.{Ordering}
 use Rattle.std.specs.declared.cmp.Ordering.TheVariants.{Less, Equal, Greater}
 use Rattle.std.specs.Ordering.{is_lt, ordering_reverse}
-use Rattle.pf_facts.proofs.Orders.{is_less}
+use Rattle.pf_lemmas.proofs.Orders.{is_less}
 use Rattle.pf_window.specs.Share.{is_heavy}
 use Rattle.pf_window.specs.Window.{bit_of}
 use Rattle.pf_window.specs.Group.{group_of}

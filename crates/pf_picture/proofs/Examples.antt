@@ -27,7 +27,7 @@ use Rattle.pf_picture.specs.Processors.{processor_name, turn_text, processor_tex
 use Rattle.pf_picture.specs.Shapes.{stretch_shape, drop_shape, mark_shape, bracket_start, bracket_end, field_shape, label_shape, words_shape}
 use Rattle.pf_picture.specs.Stairs.{shared_text, shared_if, row_label}
 use Rattle.pf_picture.specs.Task.{both_words, words_in, name_text, lag_label, strip_text, stairs_text, windows_in, course_text, admitted_text, task_text_of}
-use Rattle.pf_names.specs.Titled.{number_label}
+use Rattle.pf_vocabulary.specs.Names.Titled.{number_label}
 use Rattle.pf_picture.specs.Examples.{WorkedPictures}
 
 pub worked_pictures : WorkedPictures

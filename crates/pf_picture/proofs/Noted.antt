@@ -2,8 +2,8 @@
 use Rattle.std.proofs.Common.{◌≡◌, ◌∙◌, ℕ, List, map, subst, ap}
 use Rattle.pf_run.specs.declared.denied.Denied.{Denied}
 use Rattle.pf_scenario.specs.declared.event.Numbered.{Numbered}
-use Rattle.pf_names.specs.declared.named.Named.{Named}
-use Rattle.pf_table.specs.Lists.{noted_of}
+use Rattle.pf_vocabulary.specs.declared.names.named.Named.{Named}
+use Rattle.pf_collections.specs.Table.Lists.{noted_of}
 use Rattle.pf_tally.specs.Own.{AreDiaries}
 use Rattle.pf_desk.specs.Desk.{Seen}
 use Rattle.pf_courses.specs.Listing.{Listing, listings_of}

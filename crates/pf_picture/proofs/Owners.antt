@@ -11,7 +11,7 @@ use Rattle.pf_scenario.specs.Event.{task_of}
 use Rattle.pf_scenario.specs.declared.event.Numbered.{Numbered}
 use Rattle.pf_run.specs.declared.denied.Denied.{Denied}
 use Rattle.pf_scenario.proofs.Lists.{find_none}
-use Rattle.pf_table.specs.Lists.{noted_of}
+use Rattle.pf_collections.specs.Table.Lists.{noted_of}
 use Rattle.pf_tally.specs.Own.{is_own, events_of_task}
 use Rattle.pf_picture.specs.Drawing.{is_denial_of}
 use Rattle.pf_picture.specs.Denials.{AreDenialsByTask, HaveRisingNumbers, owner_of}

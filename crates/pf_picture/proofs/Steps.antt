@@ -3,7 +3,7 @@ use Rattle.std.proofs.Common.{◌≡◌, ◌∙◌, ℕ, suc, ◌+◌, ◌-◌, 
 use Rattle.std.specs.List.{flat_map, range_with_len}
 use Rattle.std.proofs.lemmas.List.{flat_map_more}
 use Rattle.std.proofs.lemmas.List.Concat.{flat_map-cons}
-use Rattle.pf_facts.proofs.Ranges.{range_more}
+use Rattle.pf_lemmas.proofs.Ranges.{range_more}
 
 -- Use: one slot further.
 pub steps_next : (f : ℕ → List ℕ) (a t : ℕ) (old before after : List ℕ) → a ≤ t → after ≡ before ++ f t → before ≡ old ++ flat_map f (range_with_len a (t - a)) →

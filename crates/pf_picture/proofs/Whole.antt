@@ -4,7 +4,7 @@ use Rattle.std.proofs.lemmas.List.{length-map}
 use Rattle.std.proofs.lemmas.List.FromFn.{length-range_with_len}
 use Rattle.std.proofs.lemmas.List.Sums.{length-filter, count_by-le-length}
 use Rattle.std.specs.List.{count_by, range_with_len}
-use Rattle.pf_names.specs.declared.named.Named.{Named}
+use Rattle.pf_vocabulary.specs.declared.names.named.Named.{Named}
 use Rattle.pf_weight.specs.declared.task.TheConstants.{LARGEST_TASK}
 use Rattle.pf_run.specs.Computed.{run_of}
 use Rattle.pf_desk.specs.Desk.{Seen}
@@ -12,8 +12,8 @@ use Rattle.pf_courses.specs.Course.{tracks_of}
 use Rattle.pf_courses.specs.Listing.{is_listed, listing_of, listings_of}
 use Rattle.pf_picture.specs.Drawing.{Drawing, drawing_of, drawings_of}
 use Rattle.pf_picture.specs.Shown.{TaskDrawings, parted}
-use Rattle.pf_tasks.specs.Listed.{is_listed as is_in}
-use Rattle.pf_tasks.specs.declared.task_range.TaskRange.{TaskRange}
+use Rattle.pf_vocabulary.specs.Tasks.Listed.{is_listed as is_in}
+use Rattle.pf_vocabulary.specs.declared.tasks.task_range.TaskRange.{TaskRange}
 
 few_among : (tests : ℕ → Bool) (numbers : List ℕ) (count : ℕ) → count ≡ count_by tests numbers → length numbers ≡ 4095 → count ≤ 4095
 few_among tests numbers count is many = omega (arith, is, many, count_by-le-length tests numbers)

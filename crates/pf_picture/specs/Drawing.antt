@@ -3,9 +3,9 @@ use Rattle.std.specs.Prelude.{ℕ, Bool, ◌&&◌, ◌==◌, nat_lt, Option, Som
 use Rattle.std.specs.Fmt.{decimal}
 use Rattle.std.specs.List.{list_any}
 use Rattle.std.specs.Option.{option_and_then, option_map_or}
-use Rattle.pf_names.specs.Names.{name_of}
-use Rattle.pf_names.specs.Titled.{label_of}
-use Rattle.pf_names.specs.declared.named.Named.{Named}
+use Rattle.pf_vocabulary.specs.Names.Names.{name_of}
+use Rattle.pf_vocabulary.specs.Names.Titled.{label_of}
+use Rattle.pf_vocabulary.specs.declared.names.named.Named.{Named}
 use Rattle.pf_scenario.specs.Event.{slot_of, is_join_of}
 use Rattle.pf_scenario.specs.declared.event.Event.{Event}
 use Rattle.pf_scenario.specs.declared.event.Event.TheVariants.{Join}

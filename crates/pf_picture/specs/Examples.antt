@@ -4,9 +4,9 @@ use Rattle.pf_scenario.specs.declared.event.Event.TheVariants.{Join, Leave, Dela
 use Rattle.pf_scenario.specs.Scenario.{Plan}
 use Rattle.pf_run.specs.Examples.{plan_with}
 use Rattle.pf_run.specs.RunRows.{rows_in, denials_in}
-use Rattle.pf_names.specs.Titled.{untitled}
-use Rattle.pf_look.specs.Looks.{usual_look}
-use Rattle.pf_look.specs.declared.style.Style.TheVariants.{Strips, Stairs}
+use Rattle.pf_vocabulary.specs.Names.Titled.{untitled}
+use Rattle.pf_vocabulary.specs.Look.Looks.{usual_look}
+use Rattle.pf_vocabulary.specs.declared.look.style.Style.TheVariants.{Strips, Stairs}
 use Rattle.pf_desk.specs.Desk.{Seen}
 use Rattle.pf_picture.specs.Frame.{style_text}
 use Rattle.pf_picture.specs.Picture.{picture_text_of}

@@ -2,8 +2,8 @@
 use Rattle.std.specs.Prelude.{ℕ, ◌+◌, ◌-◌, ◌%◌, ◌==◌, if◌then◌else◌, Option, List, ◌++◌, codes}
 use Rattle.std.specs.List.{flat_map, range_with_len}
 use Rattle.std.specs.Option.{option_map_or}
-use Rattle.pf_names.specs.Slots.{unit_word}
-use Rattle.pf_names.specs.declared.slot_length.SlotLength.{SlotLength}
+use Rattle.pf_vocabulary.specs.Names.Slots.{unit_word}
+use Rattle.pf_vocabulary.specs.declared.names.slot_length.SlotLength.{SlotLength}
 use Rattle.pf_picture.specs.Element.{put, put_word}
 use Rattle.pf_picture.specs.Scale.{Measures, time_in, x_of}
 

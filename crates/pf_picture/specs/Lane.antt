@@ -1,8 +1,8 @@
 -- Where a task is drawn.
 use Rattle.std.specs.Prelude.{ℕ, ◌+◌, ◌-◌, ◌*◌, ◌%◌, ◌^◌, ◌≤◌, max, min}
 use Rattle.pf_courses.specs.Course.{Track}
-use Rattle.pf_look.specs.declared.style.Style.{Style}
-use Rattle.pf_look.specs.declared.style.Style.TheVariants.{Strips, Stairs}
+use Rattle.pf_vocabulary.specs.declared.look.style.Style.{Style}
+use Rattle.pf_vocabulary.specs.declared.look.style.Style.TheVariants.{Strips, Stairs}
 use Rattle.pf_picture.specs.Scale.{Measures}
 use Rattle.pf_picture.specs.declared.lane.Lane.{Lane}
 

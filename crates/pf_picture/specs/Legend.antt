@@ -1,7 +1,7 @@
 -- What the signs of a picture mean.
 use Rattle.std.specs.Prelude.{ℕ, ◌+◌, ◌*◌, ◌/◌, ◌%◌, List, ◌++◌, codes}
-use Rattle.pf_look.specs.declared.style.Style.{Style}
-use Rattle.pf_look.specs.declared.style.Style.TheVariants.{Strips, Stairs}
+use Rattle.pf_vocabulary.specs.declared.look.style.Style.{Style}
+use Rattle.pf_vocabulary.specs.declared.look.style.Style.TheVariants.{Strips, Stairs}
 use Rattle.pf_picture.specs.Element.{put, put_word}
 use Rattle.pf_picture.specs.Scale.{Measures, columns_of}
 

@@ -8,8 +8,8 @@ use Rattle.pf_courses.specs.Course.{Track}
 use Rattle.pf_courses.specs.declared.window.Window.{Window}
 use Rattle.pf_run.specs.declared.denied.Denied.{Denied}
 use Rattle.pf_tally.specs.Clock.{Stop}
-use Rattle.pf_look.specs.declared.style.Style.{Style}
-use Rattle.pf_look.specs.declared.style.Style.TheVariants.{Strips, Stairs}
+use Rattle.pf_vocabulary.specs.declared.look.style.Style.{Style}
+use Rattle.pf_vocabulary.specs.declared.look.style.Style.TheVariants.{Strips, Stairs}
 use Rattle.pf_picture.specs.Element.{put}
 use Rattle.pf_picture.specs.Lane.{events_level, first_shown, last_shown, stairs_end, stop_height}
 use Rattle.pf_picture.specs.Scale.{Measures, x_of}

@@ -2,15 +2,15 @@
 use Rattle.std.specs.Prelude.{ℕ, ◌+◌, ◌-◌, ◌*◌, max, min, Option, List, [], ◌∷◌, ◌++◌, codes, drop, length}
 use Rattle.std.specs.Fmt.{decimal}
 use Rattle.std.specs.List.{flat_map, fold, range_with_len}
-use Rattle.pf_names.specs.declared.slot_length.SlotLength.{SlotLength}
-use Rattle.pf_names.specs.declared.titles.Titles.{Titles}
-use Rattle.pf_tasks.specs.declared.task_range.TaskRange.{TaskRange}
+use Rattle.pf_vocabulary.specs.declared.names.slot_length.SlotLength.{SlotLength}
+use Rattle.pf_vocabulary.specs.declared.names.titles.Titles.{Titles}
+use Rattle.pf_vocabulary.specs.declared.tasks.task_range.TaskRange.{TaskRange}
 use Rattle.pf_run.specs.Computed.{run_of}
 use Rattle.pf_tally.specs.Misses.{misses_of}
 use Rattle.pf_desk.specs.Desk.{Seen}
-use Rattle.pf_look.specs.declared.look.Look.{Look}
-use Rattle.pf_look.specs.declared.style.Style.{Style}
-use Rattle.pf_look.specs.declared.style.Style.TheVariants.{Strips, Stairs}
+use Rattle.pf_vocabulary.specs.declared.look.look.Look.{Look}
+use Rattle.pf_vocabulary.specs.declared.look.style.Style.{Style}
+use Rattle.pf_vocabulary.specs.declared.look.style.Style.TheVariants.{Strips, Stairs}
 use Rattle.pf_picture.specs.Drawing.{Drawing, drawings_of}
 use Rattle.pf_picture.specs.Frame.{front_text}
 use Rattle.pf_picture.specs.Grid.{block_front}

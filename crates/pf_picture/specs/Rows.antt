@@ -5,8 +5,8 @@ use Rattle.std.specs.List.{fold}
 use Rattle.pf_courses.specs.Course.{Track}
 use Rattle.pf_courses.specs.declared.quantum.Quantum.{Quantum}
 use Rattle.pf_courses.specs.declared.window.Window.{Window}
-use Rattle.pf_look.specs.declared.style.Style.{Style}
-use Rattle.pf_look.specs.declared.style.Style.TheVariants.{Strips, Stairs}
+use Rattle.pf_vocabulary.specs.declared.look.style.Style.{Style}
+use Rattle.pf_vocabulary.specs.declared.look.style.Style.TheVariants.{Strips, Stairs}
 use Rattle.pf_picture.specs.Drawing.{Drawing}
 use Rattle.pf_picture.specs.Scale.{Measures}
 

@@ -2,8 +2,8 @@
 use Rattle.std.specs.Prelude.{ℕ, ◌+◌, ◌-◌, ◌*◌, ◌/◌, ◌^◌, ◌≤◌, max, min, nat_le, Option, [], ◌∷◌, find}
 use Rattle.std.specs.Int.{div_ceil}
 use Rattle.std.specs.Option.{option_map_or, unwrap_or}
-use Rattle.pf_names.specs.declared.slot_length.SlotLength.{SlotLength}
-use Rattle.pf_look.specs.declared.style.Style.{Style}
+use Rattle.pf_vocabulary.specs.declared.names.slot_length.SlotLength.{SlotLength}
+use Rattle.pf_vocabulary.specs.declared.look.style.Style.{Style}
 
 -- the slots from `from` to `to`, each `cell` wide, and what stands to their left; the picture's width; every so many slots
 -- one is numbered; so many processors; the greatest lag in whole quanta; how the tasks are drawn; and how long a slot is,

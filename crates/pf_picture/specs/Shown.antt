@@ -1,7 +1,7 @@
 -- What a picture tells of the listed tasks: of those that it shows, and of the others.
 use Rattle.std.specs.Prelude.{not, List, [], filter}
-use Rattle.pf_tasks.specs.Listed.{is_listed}
-use Rattle.pf_tasks.specs.declared.task_range.TaskRange.{TaskRange}
+use Rattle.pf_vocabulary.specs.Tasks.Listed.{is_listed}
+use Rattle.pf_vocabulary.specs.declared.tasks.task_range.TaskRange.{TaskRange}
 use Rattle.pf_picture.specs.Drawing.{Drawing}
 
 -- the others have boxes in the rows of the processors alone

@@ -4,8 +4,8 @@ use Rattle.std.specs.Fmt.{signed_decimal}
 use Rattle.std.specs.List.{flat_map}
 use Rattle.std.specs.Option.{option_map_or}
 use Rattle.pf_courses.specs.Course.{Track}
-use Rattle.pf_look.specs.declared.style.Style.{Style}
-use Rattle.pf_look.specs.declared.style.Style.TheVariants.{Strips, Stairs}
+use Rattle.pf_vocabulary.specs.declared.look.style.Style.{Style}
+use Rattle.pf_vocabulary.specs.declared.look.style.Style.TheVariants.{Strips, Stairs}
 use Rattle.pf_picture.specs.Brackets.{window_text}
 use Rattle.pf_picture.specs.Drawing.{Drawing}
 use Rattle.pf_picture.specs.Element.{put_word}

@@ -2,9 +2,9 @@ ghost use Rattle.std.specs.Prelude.{◌≡◌, ◌<◌, ◌≤◌, length, IfOk}
 ghost use Rattle.std.specs.List.{AllWithin};
 ghost use Rattle.pf_picture.specs.Denials.{AreDenialsByTask, HaveRisingNumbers, owner_of};
 
+use pf_collections::table::lists::Lists;
 use pf_run::denied::Denied;
 use pf_scenario::event::Numbered;
-use pf_table::lists::Lists;
 use std::alloc::{AllocError, Global};
 
 /// How many of the events have a number below this one.

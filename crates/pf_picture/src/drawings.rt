@@ -1,5 +1,5 @@
 ghost use Rattle.std.specs.Prelude.{◌≡◌, find, map, option_map, IfOk};
-ghost use Rattle.pf_table.specs.Lists.{noted_of};
+ghost use Rattle.pf_collections.specs.Table.Lists.{noted_of};
 ghost use Rattle.std.specs.String.{string_bytes};
 ghost use Rattle.pf_courses.specs.Listing.{listings_of};
 ghost use Rattle.pf_picture.specs.Drawing.{asked_by, asked_of, drawings_of, early_of, is_join_below, weight_behind, weight_of, weight_text};
@@ -8,16 +8,16 @@ ghost use Rattle.pf_picture.specs.Denials.{drawing_with};
 use crate::asked::Asked;
 use crate::denials::denials_by_task;
 use crate::drawing::Drawing;
+use pf_collections::table::lists::Lists;
 use pf_courses::listed::Listed;
 use pf_courses::listings::listings;
 use pf_desk::snapshot::Snapshot;
-use pf_names::name::Name;
-use pf_names::names::Names;
-use pf_names::titles::label_of;
 use pf_run::denied::Denied;
 use pf_scenario::event::{Event, Numbered};
-use pf_table::lists::Lists;
 use pf_tally::diary::diaries_by_task;
+use pf_vocabulary::names::name::Name;
+use pf_vocabulary::names::names::Names;
+use pf_vocabulary::names::titles::label_of;
 use std::alloc::{AllocError, Global};
 
 /// What an event asks for, if it is a join.

@@ -1,13 +1,13 @@
 ghost use Rattle.std.specs.Prelude.{◌≡◌, ◌++◌, IfOk, OnOk};
 ghost use Rattle.std.specs.String.{string_bytes};
-ghost use Rattle.pf_look.specs.declared.style.Style.{Style};
+ghost use Rattle.pf_vocabulary.specs.declared.look.style.Style.{Style};
 ghost use Rattle.pf_picture.specs.Frame.{background_text, counts_words, each_words, front_text, length_words, opening_text, range_line, settings_line, settings_words, strips_words, style_text, tasks_line, title_line};
 
 use crate::element::push_element;
 use crate::scale::Scale;
 use crate::summary::Summary;
-use pf_look::style::Style;
-use pf_names::slot_length::SlotLength;
+use pf_vocabulary::look::style::Style;
+use pf_vocabulary::names::slot_length::SlotLength;
 use std::alloc::{AllocError, Global};
 
 /// The styles by their classes.

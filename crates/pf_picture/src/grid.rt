@@ -3,7 +3,7 @@ ghost use Rattle.pf_picture.specs.Grid.{block_front, grid_line, grid_text, line_
 
 use crate::element::push_element;
 use crate::scale::{Scale, time_in};
-use pf_names::slot_length::SlotLength;
+use pf_vocabulary::names::slot_length::SlotLength;
 use std::alloc::{AllocError, Global};
 
 /// Appends how far the block lies below the picture's top.

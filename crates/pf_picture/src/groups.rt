@@ -5,7 +5,7 @@ ghost use Rattle.pf_picture.specs.Lines.{group_if, group_text, groups_text, has_
 use crate::lane::Lane;
 use crate::shapes::{push_drop, push_mark};
 use pf_courses::window::Window;
-use pf_look::style::Style;
+use pf_vocabulary::look::style::Style;
 use std::alloc::{AllocError, Global};
 
 /// Whether the group deadline of a window is drawn, where the last one drawn is this.

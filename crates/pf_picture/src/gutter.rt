@@ -1,9 +1,9 @@
 ghost use Rattle.std.specs.Prelude.{◌≡◌, ◌≤◌, ◌^◌};
-ghost use Rattle.pf_look.specs.declared.style.Style.{Style};
+ghost use Rattle.pf_vocabulary.specs.declared.look.style.Style.{Style};
 ghost use Rattle.pf_picture.specs.Picture.{characters_in, gutter_of};
 
 use crate::drawing::Drawing;
-use pf_look::style::Style;
+use pf_vocabulary::look::style::Style;
 
 /// The width of a character.
 const CHARACTER: u128 = 6;

@@ -6,7 +6,7 @@ use crate::drawing::Drawing;
 use crate::scale::Scale;
 use pf_courses::course::Course;
 use pf_courses::window::Window;
-use pf_look::style::Style;
+use pf_vocabulary::look::style::Style;
 use std::alloc::{AllocError, Global};
 
 /// Whether a window of a task with this end has a slot in the block, or its subtask ran in it.

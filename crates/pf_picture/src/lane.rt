@@ -1,9 +1,9 @@
 ghost use Rattle.std.specs.Prelude.{◌≡◌, ◌≤◌, ◌<◌, ◌^◌};
-ghost use Rattle.pf_look.specs.declared.style.Style.{Style};
+ghost use Rattle.pf_vocabulary.specs.declared.look.style.Style.{Style};
 ghost use Rattle.pf_picture.specs.Lane.{IsLane, events_level, first_row, first_shown, last_shown, level_of, stairs_end, stop_height};
 
 use crate::scale::Scale;
-use pf_look::style::Style;
+use pf_vocabulary::look::style::Style;
 
 /// Where an admitted task lies in a block of a picture, and when it is inside.
 #[derive(Clone, Copy)]

@@ -1,10 +1,10 @@
 ghost use Rattle.std.specs.Prelude.{◌≡◌, ◌++◌, ◌≤◌, ◌^◌, IfOk, OnOk};
-ghost use Rattle.pf_look.specs.declared.style.Style.TheVariants.{Stairs, Strips};
+ghost use Rattle.pf_vocabulary.specs.declared.look.style.Style.TheVariants.{Stairs, Strips};
 ghost use Rattle.pf_picture.specs.Legend.{event_items, item_at, item_place, item_text, item_words, legend_text, missed_items, stop_items, style_items, window_items};
 
 use crate::element::push_element;
 use crate::scale::Scale;
-use pf_look::style::Style;
+use pf_vocabulary::look::style::Style;
 use std::alloc::{AllocError, Global};
 
 /// Appends where an item begins.

@@ -16,11 +16,11 @@ use crate::summary::Summary;
 use crate::task_drawings::TaskDrawings;
 use pf_courses::counts::counts;
 use pf_desk::snapshot::Snapshot;
-use pf_look::look::Look;
-use pf_names::slot_length::SlotLength;
-use pf_names::titles::Titles;
-use pf_tasks::task_list::TaskList;
 use pf_text::pieces::{Chain, Pieces, Whole};
+use pf_vocabulary::look::look::Look;
+use pf_vocabulary::names::slot_length::SlotLength;
+use pf_vocabulary::names::titles::Titles;
+use pf_vocabulary::tasks::task_list::TaskList;
 use std::alloc::{AllocError, Global};
 
 /// A picture in pieces: what stands before the blocks, the blocks, and what the signs mean.

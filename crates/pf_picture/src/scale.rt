@@ -1,8 +1,8 @@
 ghost use Rattle.std.specs.Prelude.{◌≡◌, ◌<◌, ◌≤◌, ◌^◌};
 ghost use Rattle.pf_picture.specs.Scale.{processor_top, step_with, time_in, width_with};
 
-use pf_look::style::Style;
-use pf_names::slot_length::SlotLength;
+use pf_vocabulary::look::style::Style;
+use pf_vocabulary::names::slot_length::SlotLength;
 use std::marker::Model;
 
 /// What a block of a picture is measured by: its slots, how wide each is and what stands to their left, the picture's width,

@@ -16,7 +16,7 @@ use crate::shapes::{push_label, push_stretch};
 use crate::stairs::{push_all_shared, push_rows};
 use pf_courses::course::Course;
 use pf_courses::window::Window;
-use pf_look::style::Style;
+use pf_vocabulary::look::style::Style;
 use std::alloc::{AllocError, Global};
 
 /// What a task is called and its weight, on one line.

@@ -1,5 +1,5 @@
 use crate::drawing::Drawing;
-use pf_tasks::task_list::TaskList;
+use pf_vocabulary::tasks::task_list::TaskList;
 use std::alloc::{AllocError, Global};
 use std::marker::Model;
 

@@ -12,7 +12,7 @@ use crate::block::Block;
 use crate::closed_block::ClosedBlock;
 use crate::row::Row;
 use crate::row_view::RowView;
-use pf_list::shared_list::SharedList;
+use pf_collections::list::shared_list::SharedList;
 use pf_order::pick::Pick;
 use std::alloc::{AllocError, Global};
 use std::marker::Model;

@@ -4,10 +4,10 @@ use Rattle.std.specs.Fmt.{decimal}
 use Rattle.serde_json.specs.Data.{Items, array}
 use Rattle.serde_json.specs.Written.{compact_text}
 use Rattle.serde_json.proofs.OnLiterals.{serde_json_on_literals}
-use Rattle.pf_facts.proofs.Digits.{numbered}
-use Rattle.pf_names.specs.declared.named.Named.{Named}
-use Rattle.pf_names.specs.declared.slot_length.SlotLength.{SlotLength}
-use Rattle.pf_names.specs.declared.titles.Titles.{Titles}
+use Rattle.pf_lemmas.proofs.Digits.{numbered}
+use Rattle.pf_vocabulary.specs.declared.names.named.Named.{Named}
+use Rattle.pf_vocabulary.specs.declared.names.slot_length.SlotLength.{SlotLength}
+use Rattle.pf_vocabulary.specs.declared.names.titles.Titles.{Titles}
 use Rattle.pf_report.specs.Json.{names_part, report_object, slot_part}
 
 abbrev IsParted : Titles → Items → ℕ → Items → Items → ℕ → Items → Type 0

@@ -3,7 +3,7 @@ use Rattle.std.proofs.Common.{◌≡◌, ◌∙◌, ℕ, List, [], ◌∷◌, �
 use Rattle.std.proofs.lemmas.Grind.{flat_map-append}
 use Rattle.csv.specs.Writing.{row_text, default_writer}
 use Rattle.pf_desk.specs.Desk.{Seen}
-use Rattle.pf_names.specs.declared.titles.Titles.{Titles}
+use Rattle.pf_vocabulary.specs.declared.names.titles.Titles.{Titles}
 use Rattle.pf_report.specs.Script.{heading_records, settings_record, insert_records, name_record, slot_records, step_records, script_text_of, title_records}
 use Rattle.pf_text.specs.Page.{table_text}
 

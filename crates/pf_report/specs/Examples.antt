@@ -7,7 +7,7 @@ use Rattle.pf_scenario.specs.declared.change.Change.TheVariants.{Strike}
 use Rattle.pf_run.specs.RunRows.{rows_in, denials_in}
 use Rattle.pf_run.specs.Examples.{plan_with, two_joins, three_joins}
 use Rattle.pf_desk.specs.Desk.{Seen}
-use Rattle.pf_names.specs.Titled.{untitled}
+use Rattle.pf_vocabulary.specs.Names.Titled.{untitled}
 use Rattle.pf_report.specs.Tables.{schedule_text, lags_text, misses_text, denials_text}
 use Rattle.pf_report.specs.Json.{json_text}
 use Rattle.pf_report.specs.Part.{schedule_part_text}

@@ -5,10 +5,10 @@ use Rattle.serde_json.specs.Data.{Data, Members, null, number, unsigned, string,
 use Rattle.serde_json.specs.Find.{of_integer}
 use Rattle.serde_json.specs.View.{items_of}
 use Rattle.serde_json.specs.Written.{compact_text}
-use Rattle.pf_names.specs.Slots.{unit_word}
-use Rattle.pf_names.specs.declared.named.Named.{Named}
-use Rattle.pf_names.specs.declared.slot_length.SlotLength.{SlotLength}
-use Rattle.pf_names.specs.declared.titles.Titles.{Titles}
+use Rattle.pf_vocabulary.specs.Names.Slots.{unit_word}
+use Rattle.pf_vocabulary.specs.declared.names.named.Named.{Named}
+use Rattle.pf_vocabulary.specs.declared.names.slot_length.SlotLength.{SlotLength}
+use Rattle.pf_vocabulary.specs.declared.names.titles.Titles.{Titles}
 use Rattle.pf_order.specs.declared.pick.Pick.{Pick}
 use Rattle.pf_admit.specs.Refusals.{denial_code, denial_name}
 use Rattle.pf_run.specs.declared.denied.Denied.{Denied}

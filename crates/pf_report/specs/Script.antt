@@ -2,10 +2,10 @@
 use Rattle.std.specs.Prelude.{ℕ, ◌==◌, if◌then◌else◌, Option, List, [], ◌∷◌, ◌++◌, codes, map}
 use Rattle.std.specs.Fmt.{decimal}
 use Rattle.std.specs.Option.{option_map_or}
-use Rattle.pf_names.specs.Slots.{unit_word}
-use Rattle.pf_names.specs.declared.named.Named.{Named}
-use Rattle.pf_names.specs.declared.slot_length.SlotLength.{SlotLength}
-use Rattle.pf_names.specs.declared.titles.Titles.{Titles}
+use Rattle.pf_vocabulary.specs.Names.Slots.{unit_word}
+use Rattle.pf_vocabulary.specs.declared.names.named.Named.{Named}
+use Rattle.pf_vocabulary.specs.declared.names.slot_length.SlotLength.{SlotLength}
+use Rattle.pf_vocabulary.specs.declared.names.titles.Titles.{Titles}
 use Rattle.pf_scenario.specs.System.{System, near_horizon}
 use Rattle.pf_scenario.specs.declared.event.Event.{Event}
 use Rattle.pf_scenario.specs.declared.event.Event.TheVariants.{Join, Leave, Delay, Limit}

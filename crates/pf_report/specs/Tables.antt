@@ -3,8 +3,8 @@ use Rattle.std.specs.Prelude.{ℕ, ◌+◌, Option, None, Some, List, [], ◌∷
 use Rattle.std.specs.List.{range_with_len}
 use Rattle.std.specs.Option.{option_map_or}
 use Rattle.std.specs.Fmt.{decimal, signed_decimal}
-use Rattle.pf_names.specs.declared.titles.Titles.{Titles}
-use Rattle.pf_name_column.specs.Column.{name_fields, name_heading}
+use Rattle.pf_vocabulary.specs.declared.names.titles.Titles.{Titles}
+use Rattle.pf_vocabulary.specs.NameColumn.Column.{name_fields, name_heading}
 use Rattle.pf_text.specs.Page.{table_text}
 use Rattle.pf_order.specs.declared.pick.Pick.{Pick}
 use Rattle.pf_admit.specs.Refusals.{denial_code, denial_name}

@@ -3,7 +3,7 @@ ghost use Rattle.std.specs.Fmt.{decimal};
 ghost use Rattle.serde_json.specs.Data.{array};
 ghost use Rattle.serde_json.specs.View.{items_of, view};
 ghost use Rattle.serde_json.specs.Written.{compact_text};
-ghost use Rattle.pf_names.specs.Titled.{untitled};
+ghost use Rattle.pf_vocabulary.specs.Names.Titled.{untitled};
 ghost use Rattle.pf_place.specs.Lent.{lent_row};
 ghost use Rattle.pf_report.specs.Json.{array_data, sitter_data, denial_data, lag_data, miss_data, json_text, names_part, slot_part};
 
@@ -15,7 +15,6 @@ use crate::names::{names_part, slot_part};
 use crate::schedule::ScheduleRows;
 use pf_desk::rows::{row_at, row_count};
 use pf_desk::snapshot::Snapshot;
-use pf_names::titles::Titles;
 use pf_order::pick::Pick;
 use pf_place::row_view::RowView;
 use pf_run::denied::Denied;
@@ -23,6 +22,7 @@ use pf_tally::lag::Lag;
 use pf_tally::miss::Miss;
 use pf_tally::tally::Tally;
 use pf_text::pieces::{Chain, Pieces, Whole, gathered};
+use pf_vocabulary::names::titles::Titles;
 use serde_json::{Value, json};
 use std::alloc::{AllocError, Global};
 

@@ -1,15 +1,15 @@
 ghost use Rattle.std.specs.Prelude.{◌≡◌, [], IfOk, OnOk};
-ghost use Rattle.pf_names.specs.Titled.{untitled};
+ghost use Rattle.pf_vocabulary.specs.Names.Titled.{untitled};
 ghost use Rattle.pf_text.specs.Page.{with_record};
 ghost use Rattle.pf_report.specs.Tables.{lags_table, lags_text, named_lag_record};
 
 use pf_desk::snapshot::Snapshot;
-use pf_name_column::column::{push_heading, show_name};
-use pf_names::titles::Titles;
 use pf_tally::lag::Lag;
 use pf_text::pieces::{Chain, Whole, gathered};
 use pf_text::records::{RecordPieces, Records};
 use pf_text::table::Table;
+use pf_vocabulary::name_column::column::{push_heading, show_name};
+use pf_vocabulary::names::titles::Titles;
 use std::alloc::{AllocError, Global};
 use std::marker::Model;
 

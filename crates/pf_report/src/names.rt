@@ -3,10 +3,10 @@ ghost use Rattle.serde_json.specs.View.{view};
 ghost use Rattle.pf_report.specs.Json.{name_data, names_part, slot_data, slot_part};
 
 use crate::elements::{ArrayPieces, Elements};
-use pf_names::named::Named;
-use pf_names::slot_length::SlotLength;
-use pf_names::titles::Titles;
 use pf_text::pieces::gathered;
+use pf_vocabulary::names::named::Named;
+use pf_vocabulary::names::slot_length::SlotLength;
+use pf_vocabulary::names::titles::Titles;
 use serde_json::{Value, json};
 use std::alloc::{AllocError, Global};
 use std::marker::Model;
@@ -42,7 +42,7 @@ struct NameRows<'a> {
 
 impl<'a> Model for NameRows<'a> {
     ghost use Rattle.std.specs.Prelude.{List};
-    ghost use Rattle.pf_names.specs.declared.named.Named.{Named};
+    ghost use Rattle.pf_vocabulary.specs.declared.names.named.Named.{Named};
 
     ghost Value = { List Named };
 

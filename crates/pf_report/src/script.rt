@@ -5,14 +5,14 @@ ghost use Rattle.pf_report.specs.Script.{heading_records, settings_record, inser
 ghost use Rattle.pf_text.specs.Page.{table_text};
 
 use pf_desk::snapshot::Snapshot;
-use pf_names::names::Names;
-use pf_names::slot_length::SlotLength;
-use pf_names::titles::Titles;
 use pf_scenario::event::Event;
 use pf_scenario::events::Events;
 use pf_scenario::settings::{NEAR_HORIZON, Settings};
 use pf_text::pieces::{Chain, Pieces, Whole, gathered};
 use pf_text::table::Table;
+use pf_vocabulary::names::names::Names;
+use pf_vocabulary::names::slot_length::SlotLength;
+use pf_vocabulary::names::titles::Titles;
 use std::alloc::{AllocError, Global};
 use std::marker::Model;
 

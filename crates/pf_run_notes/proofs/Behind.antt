@@ -1,11 +1,11 @@
 -- The notes after a run, by their parts.
 use Rattle.std.proofs.Common.{◌≡◌, ℕ, ◌-◌, List, [], ◌∷◌, ◌++◌, length, take, refl, ap, ap₂, ◌∙◌, append_assoc}
 use Rattle.std.specs.List.{flat_map}
-use Rattle.pf_names.specs.declared.named.Named.{Named}
+use Rattle.pf_vocabulary.specs.declared.names.named.Named.{Named}
 use Rattle.pf_scenario.specs.Scenario.{Plan}
 use Rattle.pf_run.specs.Record.{Slot}
 use Rattle.pf_run.specs.Computed.{run_of}
-use Rattle.pf_table.specs.Grown.{Grown, value_of}
+use Rattle.pf_collections.specs.Table.Grown.{Grown, value_of}
 use Rattle.pf_tally.specs.Misses.{misses_of}
 use Rattle.pf_tally.specs.declared.miss.Miss.{Miss}
 use Rattle.pf_notes.specs.Desk.{Seen}

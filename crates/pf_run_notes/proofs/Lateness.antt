@@ -6,7 +6,7 @@ use Rattle.std.proofs.lemmas.Bool.{cases_Bool, cases_eq, cond-true, cond-false, 
 use Rattle.std.proofs.lemmas.List.{length-append, length-replicate, get_or-set_same, get_or-set_other}
 use Rattle.std.proofs.lemmas.List.Sums.{sum_by_push, fold_push}
 use Rattle.std.proofs.lemmas.List.Folds.{list_any-append}
-use Rattle.pf_table.specs.Grown.{Grown, value_of, with_value, grown_to}
+use Rattle.pf_collections.specs.Table.Grown.{Grown, value_of, with_value, grown_to}
 use Rattle.pf_run.proofs.Counting.{count_by-cons, none_counted}
 use Rattle.pf_tally.specs.declared.miss.Miss.{Miss}
 use Rattle.pf_run_notes.specs.Late.{is_of_task, count_of_task, with_first, firsts_of}

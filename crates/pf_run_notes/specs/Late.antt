@@ -1,7 +1,7 @@
 -- The tasks that missed windows, in the order of their first ones.
 use Rattle.std.specs.Prelude.{◌≡◌, ℕ, ◌==◌, Bool, if◌then◌else◌, List, [], ◌∷◌, ◌++◌, count_by, fold}
 use Rattle.std.specs.List.{list_any}
-use Rattle.pf_table.specs.Grown.{Grown, value_of}
+use Rattle.pf_collections.specs.Table.Grown.{Grown, value_of}
 use Rattle.pf_tally.specs.declared.miss.Miss.{Miss}
 
 abbrev pub is_of_task : ℕ → Miss → Bool

@@ -2,14 +2,14 @@
 use Rattle.std.specs.Prelude.{ℕ, ◌-◌, ◌==◌, nat_lt, if◌then◌else◌, Option, None, Some, List, [], ◌++◌, length, take}
 use Rattle.std.specs.List.{flat_map}
 use Rattle.std.specs.Option.{option_map_or, option_and_then}
-use Rattle.pf_names.specs.Names.{name_of}
-use Rattle.pf_names.specs.declared.named.Named.{Named}
+use Rattle.pf_vocabulary.specs.Names.Names.{name_of}
+use Rattle.pf_vocabulary.specs.declared.names.named.Named.{Named}
 use Rattle.pf_scenario.specs.Scenario.{Plan}
 use Rattle.pf_scenario.specs.declared.event.Numbered.{Numbered}
 use Rattle.pf_run.specs.declared.denied.Denied.{Denied}
 use Rattle.pf_run.specs.Record.{Slot}
 use Rattle.pf_run.specs.Computed.{run_of}
-use Rattle.pf_table.specs.Grown.{Grown, value_of}
+use Rattle.pf_collections.specs.Table.Grown.{Grown, value_of}
 use Rattle.pf_tally.specs.Misses.{misses_of}
 use Rattle.pf_tally.specs.declared.miss.Miss.{Miss}
 use Rattle.pf_notes.specs.Desk.{Seen}

@@ -9,8 +9,8 @@ use crate::made::Made;
 use crate::notes::{front, push_denials, push_last, push_late_tasks, push_rest};
 use crate::refusals::Refusals;
 use pf_desk::snapshot::Snapshot;
-use pf_names::names::Names;
 use pf_notes::reasons::Reasons;
+use pf_vocabulary::names::names::Names;
 use std::alloc::{AllocError, Global};
 
 /// How many lines there are.

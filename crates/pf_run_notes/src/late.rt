@@ -1,8 +1,8 @@
 ghost use Rattle.std.specs.Prelude.{◌≡◌, ◌==◌, ◌++◌, ◌∷◌, [], ℕ, cond, if◌then◌else◌, IfOk, OnOk};
-ghost use Rattle.pf_table.specs.Grown.{value_of};
+ghost use Rattle.pf_collections.specs.Table.Grown.{value_of};
 ghost use Rattle.pf_run_notes.specs.Late.{AreLate};
 
-use pf_table::table::Table;
+use pf_collections::table::table::Table;
 use pf_tally::miss::Miss;
 use std::alloc::{AllocError, Global};
 
@@ -37,7 +37,7 @@ fn give(counts: &mut Table<u64>, task: u32, count: u64) -> Result<(), AllocError
 impl LateTasks {
     ghost use Rattle.std.specs.Prelude.{◌+◌, ◌++◌, ◌∷◌, ◌<◌, ◌^◌, List, [], OnOk};
     ghost use Rattle.pf_tally.specs.declared.miss.Miss.{Miss};
-    ghost use Rattle.pf_table.specs.Grown.{value_of};
+    ghost use Rattle.pf_collections.specs.Table.Grown.{value_of};
     ghost use Rattle.pf_run_notes.specs.Late.{AreLate};
 
     /// A window more that was missed.

@@ -1,7 +1,7 @@
 ghost use Rattle.std.specs.Prelude.{◌≡◌, ◌++◌, take, OnOk};
 ghost use Rattle.std.specs.List.{flat_map};
 ghost use Rattle.std.specs.Option.{option_map, option_and_then};
-ghost use Rattle.pf_names.specs.Names.{name_of};
+ghost use Rattle.pf_vocabulary.specs.Names.Names.{name_of};
 ghost use Rattle.pf_scenario.specs.Event.{is_join_of};
 ghost use Rattle.pf_run.specs.Computed.{run_of};
 ghost use Rattle.pf_notes.specs.Absence.{join_among};
@@ -13,14 +13,14 @@ ghost use Rattle.pf_run_notes.specs.Notes.{counts_text, denied_note, late_lines,
 use crate::lines::{push_counts, push_denied, push_missed, push_more};
 use crate::made::Made;
 use crate::place::Place;
-use pf_names::names::Names;
+use pf_collections::table::table::Table;
 use pf_notes::grounds::{Grounds, push_grounds};
 use pf_notes::reasons::Reasons;
 use pf_run::denied::Denied;
 use pf_scenario::event::{Event, Numbered};
 use pf_scenario::scenario::Scenario;
-use pf_table::table::Table;
 use pf_tally::miss::Miss;
+use pf_vocabulary::names::names::Names;
 use std::alloc::{AllocError, Global};
 
 /// The name of the task, where it has one.

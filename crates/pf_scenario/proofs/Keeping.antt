@@ -8,7 +8,7 @@ use Rattle.std.proofs.lemmas.List.{append-nil}
 use Rattle.std.proofs.lemmas.List.Elements.{All-weaker}
 use Rattle.std.proofs.lemmas.Bool.Decides.{nat_tests}
 use Rattle.std.proofs.lemmas.Nat.Gcd.{le_of_dvd, dvd_of_mod-eq-zero}
-use Rattle.pf_facts.proofs.Filters.{filter_all}
+use Rattle.pf_lemmas.proofs.Filters.{filter_all}
 use Rattle.pf_weight.specs.Share.{IsBase}
 use Rattle.pf_weight.specs.Weighed.{weight_fault}
 use Rattle.pf_weight.specs.declared.fault.WeightFault.{WeightFault}

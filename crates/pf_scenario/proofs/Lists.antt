@@ -6,7 +6,7 @@ use Rattle.std.proofs.lemmas.List.Kept.{AllPairs-cons}
 use Rattle.std.proofs.lemmas.List.{map-append}
 use Rattle.std.proofs.lemmas.List.Folds.{map_fixed}
 use Rattle.std.proofs.lemmas.Bool.{or_parts, or_cases}
-use Rattle.pf_facts.proofs.Filters.{filter_all}
+use Rattle.pf_lemmas.proofs.Filters.{filter_all}
 
 -- what holds of each element of a list holds of each element of its parts
 pub All_left : {X : Type 0} (P : X → Type 0) (xs ys : List X) → All P (xs ++ ys) → All P xs

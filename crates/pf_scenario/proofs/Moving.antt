@@ -13,7 +13,7 @@ use Rattle.std.proofs.lemmas.Bool.{cases_Bool, false≢true, or_parts, or_cases,
 use Rattle.std.proofs.lemmas.Bool.Decides.{nat_tests}
 use Rattle.std.proofs.lemmas.List.{append-nil}
 use Rattle.std.proofs.lemmas.List.Elements.{All-nil, All-head, All-tail, All-weaker}
-use Rattle.pf_facts.proofs.Orders.{is_equal}
+use Rattle.pf_lemmas.proofs.Orders.{is_equal}
 use Rattle.pf_scenario.proofs.Lists.{Pairs-from_all, Pairs_middle, Pairs_without, Pairs_before, Pairs_after, none_passes, All_at}
 use Rattle.pf_scenario.proofs.Sorting.{put_comm, All-put, list_any-put}
 use Rattle.pf_scenario.proofs.Indexing.{room_held}

@@ -7,7 +7,7 @@ use Rattle.std.proofs.lemmas.Bool.{cases_Bool, cond-true, cond-false, false≢tr
 use Rattle.std.proofs.lemmas.List.{length-map, length-append, take-append-drop, append-nil}
 use Rattle.std.proofs.lemmas.List.Elements.{All-nil, All-cons, All-head, All-tail, All-append, All-weaker, filter_map-append}
 use Rattle.std.proofs.lemmas.List.Folds.{list_any_none}
-use Rattle.pf_facts.proofs.Filters.{filter_all}
+use Rattle.pf_lemmas.proofs.Filters.{filter_all}
 use Rattle.pf_scenario.proofs.Lists.{Pairs, Pairs-from_all, AllPairs-from_pairs, Pairs_without, Pairs_middle, All_left, All_right, All_at, filter_middle, map_middle, find_middle, find_none}
 use Rattle.pf_scenario.specs.Scenario.{with_number, is_held, events_without}
 use Rattle.pf_scenario.specs.Cards.{event_on, numbered_on, listed, IsCardAt, IsTable}

@@ -10,7 +10,7 @@ use Rattle.std.proofs.lemmas.Bool.{cases_Bool, cond-false, eq-eqb, ne_eqb, trueâ
 use Rattle.std.proofs.lemmas.Bool.Decides.{nat_tests}
 use Rattle.std.proofs.lemmas.List.{append_assoc, append-nil}
 use Rattle.std.proofs.lemmas.List.Elements.{All-nil, All-cons, All-head, All-tail, All-weaker, All-filter, filter_agree}
-use Rattle.pf_facts.proofs.Filters.{filter_same}
+use Rattle.pf_lemmas.proofs.Filters.{filter_same}
 use Rattle.pf_scenario.proofs.Lists.{Pairs, Pairs-from_all, All_at}
 use Rattle.pf_scenario.proofs.Sorting.{All-sorted_by}
 use Rattle.pf_scenario.proofs.Placing.{places_of}

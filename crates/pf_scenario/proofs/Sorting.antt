@@ -10,7 +10,7 @@ use Rattle.std.proofs.lemmas.Cmp.{alike_right}
 use Rattle.std.proofs.lemmas.Bool.{cases_Bool, cond-true, cond-false, false≢true, false_from_ne_true}
 use Rattle.std.proofs.lemmas.List.Elements.{All-nil, All-cons, All-head, All-tail, All-weaker, All-filter}
 use Rattle.std.proofs.lemmas.List.Sorted.{IsPermutation-refl, IsPermutation-sym, IsPermutation-cons, IsPermutation-middle, IsPermutation-trans}
-use Rattle.pf_facts.proofs.Orders.{not_both, is_less}
+use Rattle.pf_lemmas.proofs.Orders.{not_both, is_less}
 use Rattle.pf_scenario.proofs.Lists.{Pairs}
 use Rattle.pf_scenario.specs.Sorted.{put_in_order, sorted_by}
 

@@ -9,3 +9,7 @@ pub mod Reading
 pub mod Records
 pub mod ScriptExamples
 pub mod ToldExamples
+pub mod CheckLemmas
+pub mod FaultNotesLemmas
+pub mod PlanLemmas
+pub mod PlanCheckLemmas

@@ -10,3 +10,7 @@ pub mod Parsing
 pub mod Places
 pub mod Script
 pub mod Told
+pub mod Check
+pub mod FaultNotes
+pub mod Plan
+pub mod PlanCheck

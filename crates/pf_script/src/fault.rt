@@ -3,7 +3,7 @@ ghost use Rattle.pf_script.specs.declared.fault.ScriptFault.TheVariants as fault
 ghost use Rattle.pf_script.specs.Faults.{fault_of_script};
 
 use crate::version::Version;
-use pf_fault::fault::Fault;
+use pf_vocabulary::fault::fault::Fault;
 use std::alloc::AllocError;
 
 /// Why a record is none of a script's.

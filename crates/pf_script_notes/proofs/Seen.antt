@@ -1,6 +1,6 @@
 -- What a desk shows that carried out a script.
 use Rattle.std.proofs.Common.{◌≡◌, ℕ, List, Option, Some, refl, ap, ◌∙◌}
-use Rattle.pf_carry.specs.Carried.{IsOf}
+use Rattle.pf_script_run.specs.Carried.{IsOf}
 use Rattle.pf_desk.specs.Desk.{Seen, Shown, StandsForHistory}
 use Rattle.pf_fit_command.specs.Fit.{IsSeenBehind}
 use Rattle.pf_script.specs.Told.{Told}

@@ -1,14 +1,14 @@
 -- What is told after a run of a script.
 use Rattle.std.specs.Prelude.{ℕ, ◌≡◌, Option, None, Some, List, [], Result, Ok, Err, Vec, false}
 use Rattle.std.specs.declared.alloc.Global.{Global}
-use Rattle.pf_carry.specs.Carried.{Stops}
+use Rattle.pf_script_run.specs.Carried.{Stops}
 use Rattle.pf_desk.specs.Desk.{Seen}
-use Rattle.pf_fault.specs.declared.fault.Fault.{Fault}
+use Rattle.pf_vocabulary.specs.declared.fault.fault.Fault.{Fault}
 use Rattle.pf_fit_command.specs.Fit.{IsSeenBehind}
-use Rattle.pf_names.specs.declared.named.Named.{Named}
-use Rattle.pf_plain.specs.Plain.{Plain, plain}
-use Rattle.pf_plain.specs.declared.origin.Origin.{Origin}
-use Rattle.pf_fit_command.specs.Recount.{Recounted, recounted}
+use Rattle.pf_vocabulary.specs.declared.names.named.Named.{Named}
+use Rattle.pf_plain_script.specs.Plain.{Plain, plain}
+use Rattle.pf_plain_script.specs.declared.origin.Origin.{Origin}
+use Rattle.pf_script_results.specs.Recount.{Recounted, recounted}
 use Rattle.pf_run_notes.specs.Notes.{notes_text}
 use Rattle.pf_script.specs.Told.{told}
 use Rattle.pf_text.specs.Page.{table_text}

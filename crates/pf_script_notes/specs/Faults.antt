@@ -1,15 +1,15 @@
 -- What is told after the line of a fault of a script.
 use Rattle.std.specs.Prelude.{ℕ, ◌≡◌, Option, None, Some, List, []}
-use Rattle.pf_fault.specs.declared.fault.Fault.{Fault}
-use Rattle.pf_fault.specs.declared.fault.Fault.TheVariants as why
-use Rattle.pf_fault.specs.declared.range_fault.RangeFault.{RangeFault}
-use Rattle.pf_fault.specs.declared.range_fault.RangeFault.TheVariants as range
-use Rattle.pf_fault_notes.specs.BadRecords.{first_fault_note}
-use Rattle.pf_fault_notes.specs.FileFaults.{file_fault_line}
-use Rattle.pf_fault_notes.specs.Ranges.{long_note, outside_note, page_note}
-use Rattle.pf_fault_notes.specs.declared.file_fault.FileFault.TheVariants as file
-use Rattle.pf_options.specs.Ranges.{slots_of}
-use Rattle.pf_options.specs.declared.slot_range.SlotRange.{SlotRange}
+use Rattle.pf_vocabulary.specs.declared.fault.fault.Fault.{Fault}
+use Rattle.pf_vocabulary.specs.declared.fault.fault.Fault.TheVariants as why
+use Rattle.pf_vocabulary.specs.declared.fault.range_fault.RangeFault.{RangeFault}
+use Rattle.pf_vocabulary.specs.declared.fault.range_fault.RangeFault.TheVariants as range
+use Rattle.pf_script.specs.FaultNotes.BadRecords.{first_fault_note}
+use Rattle.pf_script.specs.FaultNotes.FileFaults.{file_fault_line}
+use Rattle.pf_script.specs.FaultNotes.Ranges.{long_note, outside_note, page_note}
+use Rattle.pf_script.specs.declared.fault_notes.file_fault.FileFault.TheVariants as file
+use Rattle.pf_vocabulary.specs.Options.Ranges.{slots_of}
+use Rattle.pf_vocabulary.specs.declared.options.slot_range.SlotRange.{SlotRange}
 use Rattle.pf_script_notes.specs.Behind.{IsSlotsOf}
 
 -- which end of a range is beyond; a page has none

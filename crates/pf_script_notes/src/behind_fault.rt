@@ -1,18 +1,18 @@
 ghost use Rattle.std.specs.Prelude.{◌≡◌, List, ℕ, IfOk};
-ghost use Rattle.pf_carry.specs.Carried.{IsOf};
+ghost use Rattle.pf_script_run.specs.Carried.{IsOf};
 ghost use Rattle.pf_script.specs.Told.{told};
 ghost use Rattle.pf_script_notes.specs.Behind.{IsSlots, IsSlotsOf};
 ghost use Rattle.pf_script_notes.specs.Faults.{IsFaultNote, IsRangeNote, long_text, outside_text};
 
-use pf_carry::carry::carry;
 use pf_desk::desk::Desk;
-use pf_fault::fault::Fault;
-use pf_fault::range_fault::RangeFault;
-use pf_fault_notes::file_fault::{FileFault, file_fault_line};
-use pf_fault_notes::first_fault::first_fault_note;
-use pf_fault_notes::range::{long_note, outside_note, page_note};
-use pf_options::slot_range::SlotRange;
-use pf_plain::plain::plain_script;
+use pf_plain_script::plain::plain_script;
+use pf_script::fault_notes::file_fault::{FileFault, file_fault_line};
+use pf_script::fault_notes::first_fault::first_fault_note;
+use pf_script::fault_notes::range::{long_note, outside_note, page_note};
+use pf_script_run::carry::carry;
+use pf_vocabulary::fault::fault::Fault;
+use pf_vocabulary::fault::range_fault::RangeFault;
+use pf_vocabulary::options::slot_range::SlotRange;
 use std::alloc::{AllocError, Global};
 
 /// What is told after the line of a fault of the script of this file: of a bad record, what a check tells of it; of a script that

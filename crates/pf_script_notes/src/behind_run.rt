@@ -1,21 +1,21 @@
 ghost use Rattle.std.specs.Prelude.{false, ◌≡◌, Some, IfOk, IfErr};
 ghost use Rattle.std.specs.Option.{option_map};
-ghost use Rattle.pf_carry.specs.Carried.{IsOf, Stops};
-ghost use Rattle.pf_fit_command.specs.Recount.{recounted};
+ghost use Rattle.pf_script_run.specs.Carried.{IsOf, Stops};
+ghost use Rattle.pf_script_results.specs.Recount.{recounted};
 ghost use Rattle.pf_run_notes.specs.Notes.{notes_text};
 ghost use Rattle.pf_script.specs.Told.{told};
 ghost use Rattle.pf_script_notes.specs.Behind.{NotesMade, RunNotes, most_lines};
 
-use pf_carry::carry::carry;
 use pf_desk::desk::Desk;
 use pf_desk::snapshot::Snapshot;
-use pf_fault::fault::Fault;
-use pf_names::names::Names;
-use pf_plain::origin::Origin;
-use pf_plain::plain::{PlainScript, plain_script};
-use pf_recount::recount::Recount;
-use pf_recount::recounting::recount;
+use pf_plain_script::origin::Origin;
+use pf_plain_script::plain::{PlainScript, plain_script};
 use pf_run_notes::behind_run::notes;
+use pf_script_results::recount::Recount;
+use pf_script_results::recounting::recount;
+use pf_script_run::carry::carry;
+use pf_vocabulary::fault::fault::Fault;
+use pf_vocabulary::names::names::Names;
 use std::alloc::{AllocError, Global};
 
 // Lines are told of so many refusals, denials and tasks with missed windows.

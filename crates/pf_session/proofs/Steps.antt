@@ -8,7 +8,7 @@ use Rattle.pf_desk.specs.Machine.{State, reply_to, state_after}
 use Rattle.pf_desk.specs.declared.command.Command.{Command}
 use Rattle.pf_desk.specs.declared.command.Command.TheVariants.{Step}
 use Rattle.pf_desk.specs.declared.reply.Reply.{Reply}
-use Rattle.pf_plain.specs.Carried.{state_behind}
+use Rattle.pf_plain_script.specs.Carried.{state_behind}
 
 behind-append : (st : State) (xs ys : List Command) → state_behind st (xs ++ ys) ≡ state_behind (state_behind st xs) ys
 behind-append st [] ys = refl

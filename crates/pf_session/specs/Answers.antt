@@ -10,16 +10,16 @@ use Rattle.pf_desk.specs.Machine.{State, reply_to}
 use Rattle.pf_desk.specs.declared.command.Command.TheVariants as command
 use Rattle.pf_desk.specs.declared.reply.Reply.{Reply}
 use Rattle.pf_desk.specs.declared.reply.Reply.TheVariants.{Edited, Stepped, Refused}
-use Rattle.pf_names.specs.declared.named.Named.{Named}
+use Rattle.pf_vocabulary.specs.declared.names.named.Named.{Named}
 use Rattle.pf_notes.specs.Refusal.{refusal_text}
-use Rattle.pf_plain.specs.Plain.{Course}
-use Rattle.pf_recount.specs.Recount.{name_of_change}
+use Rattle.pf_plain_script.specs.Plain.{Course}
+use Rattle.pf_script_results.specs.Recount.{name_of_change}
 use Rattle.pf_scenario.specs.Scenario.{plan_after}
 use Rattle.pf_scenario.specs.declared.change.Change.{Change}
 use Rattle.pf_script.specs.declared.line.Line.{Line}
 use Rattle.pf_script.specs.declared.line.Line.TheVariants.{Edit, Steps}
-use Rattle.pf_plan.specs.declared.said.Said.{Said}
-use Rattle.pf_plan.specs.declared.said.Said.TheVariants.{Settings, Slot, Name, Asks}
+use Rattle.pf_script.specs.declared.plan.said.Said.{Said}
+use Rattle.pf_script.specs.declared.plan.said.Said.TheVariants.{Settings, Slot, Name, Asks}
 use Rattle.pf_session.specs.Made.{taking_back}
 use Rattle.pf_session.specs.declared.made.Made.{Made}
 

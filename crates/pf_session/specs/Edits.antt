@@ -3,7 +3,7 @@ use Rattle.std.specs.Prelude.{ℕ, ◌≡◌, Bool, Option, List, ◌++◌}
 use Rattle.pf_answers.specs.declared.manner.Manner.{Manner}
 use Rattle.pf_desk.specs.Machine.{State, reply_to, state_after}
 use Rattle.pf_desk.specs.declared.command.Command.TheVariants.{Edit}
-use Rattle.pf_names.specs.declared.named.Named.{Named}
+use Rattle.pf_vocabulary.specs.declared.names.named.Named.{Named}
 use Rattle.pf_scenario.specs.declared.change.Change.{Change}
 use Rattle.pf_session.specs.Answers.{edit_answer}
 use Rattle.pf_session.specs.Made.{number_made}

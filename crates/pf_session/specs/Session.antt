@@ -5,12 +5,12 @@ use Rattle.std.specs.Option.{option_map}
 use Rattle.pf_answers.specs.declared.manner.Manner.{Manner}
 use Rattle.pf_desk.specs.Machine.{State, reply_to}
 use Rattle.pf_desk.specs.declared.command.Command.TheVariants as command
-use Rattle.pf_plain.specs.Plain.{Course, course_behind, start}
+use Rattle.pf_plain_script.specs.Plain.{Course, course_behind, start}
 use Rattle.pf_script.specs.declared.line.Line.{Line}
 use Rattle.pf_script.specs.declared.line.Line.TheVariants.{Edit, Steps}
-use Rattle.pf_plan.specs.Progress.{with_label}
-use Rattle.pf_plan.specs.declared.said.Said.{Said}
-use Rattle.pf_plan.specs.declared.said.Said.TheVariants.{Settings, Slot, Name, Asks}
+use Rattle.pf_script.specs.Plan.Progress.{with_label}
+use Rattle.pf_script.specs.declared.plan.said.Said.{Said}
+use Rattle.pf_script.specs.declared.plan.said.Said.TheVariants.{Settings, Slot, Name, Asks}
 use Rattle.pf_session.specs.Made.{change_line, made_behind, made_behind_undo, number_made, taking_back}
 use Rattle.pf_session.specs.declared.made.Made.{Made}
 

@@ -8,9 +8,9 @@ use crate::pair::extend_both;
 use pf_answers::manner::Manner;
 use pf_desk::command::Command;
 use pf_desk::desk::Desk;
-use pf_names::names::Names;
 use pf_order::meter::Meter;
 use pf_scenario::change::Change;
+use pf_vocabulary::names::names::Names;
 use std::alloc::{AllocError, Global};
 
 /// All commands of a session come from the one caller.

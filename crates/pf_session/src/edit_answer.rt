@@ -5,7 +5,7 @@ ghost use Rattle.pf_answers.specs.Refused.{refused_text};
 ghost use Rattle.pf_desk.specs.Desk.{MakesReady};
 ghost use Rattle.pf_desk.specs.declared.command.Command.TheVariants as command;
 ghost use Rattle.pf_notes.specs.Refusal.{refusal_text};
-ghost use Rattle.pf_recount.specs.Recount.{name_of_change, task_of_change};
+ghost use Rattle.pf_script_results.specs.Recount.{name_of_change, task_of_change};
 ghost use Rattle.pf_session.specs.Answers.{edit_answer};
 
 use pf_answers::changes::push_made;
@@ -16,11 +16,11 @@ use pf_desk::desk::Desk;
 use pf_desk::prepared::Prepared;
 use pf_desk::reply::{Fault, Reply};
 use pf_desk::snapshot::Snapshot;
-use pf_names::names::Names;
 use pf_notes::refusal::push_refusal;
 use pf_run_notes::notes::name_of;
 use pf_scenario::change::Change;
 use pf_scenario::scenario::Scenario;
+use pf_vocabulary::names::names::Names;
 use std::alloc::{AllocError, Global};
 
 /// The task of the event that a change brings.

@@ -6,7 +6,7 @@ use pf_answers::manner::Manner;
 use pf_answers::shown::push_shown;
 use pf_answers::telling::{push_told, taken};
 use pf_desk::desk::Desk;
-use pf_plan::state::Progress;
+use pf_script::plan::state::Progress;
 use std::alloc::{AllocError, Global};
 use std::marker::Model;
 

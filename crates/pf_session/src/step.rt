@@ -4,7 +4,7 @@ ghost use Rattle.pf_answers.specs.Steps.{refused_of, replies_from, step_text, st
 ghost use Rattle.pf_desk.specs.declared.command.Command.TheVariants.{Step};
 ghost use Rattle.pf_desk.specs.Machine.{reply_to};
 ghost use Rattle.pf_report.specs.Replies.{HasFewPlaces};
-ghost use Rattle.pf_plain.specs.Carried.{state_behind};
+ghost use Rattle.pf_plain_script.specs.Carried.{state_behind};
 ghost use Rattle.pf_session.specs.Answers.{steps_answer};
 ghost use Rattle.pf_session.specs.Edits.{AreLonger};
 ghost use Rattle.pf_session.specs.declared.stop.Stop.TheVariants as stop;

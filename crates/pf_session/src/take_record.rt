@@ -3,7 +3,7 @@ ghost use Rattle.pf_answers.specs.Telling.{ready_text, taken_text};
 ghost use Rattle.pf_session.specs.Answers.{said_answer};
 ghost use Rattle.pf_session.specs.Session.{behind_asked, behind_record};
 ghost use Rattle.pf_session.specs.declared.stop.Stop.TheVariants as stop;
-ghost use Rattle.pf_plan.specs.declared.said.Said.TheVariants as says;
+ghost use Rattle.pf_script.specs.declared.plan.said.Said.TheVariants as says;
 ghost use Rattle.pf_script.specs.declared.line.Line.TheVariants as asked;
 
 use crate::edit::change_desk;
@@ -15,12 +15,12 @@ use crate::step::step_desk;
 use crate::stop::Stop;
 use pf_answers::manner::Manner;
 use pf_answers::telling::{ready, taken};
-use pf_names::name::Name;
-use pf_names::slot_length::SlotLength;
-use pf_plan::said::Said;
 use pf_scenario::change::Change;
 use pf_script::line::Line;
+use pf_script::plan::said::Said;
 use pf_script::record::ScriptSettings;
+use pf_vocabulary::names::name::Name;
+use pf_vocabulary::names::slot_length::SlotLength;
 use std::alloc::AllocError;
 
 impl Session {

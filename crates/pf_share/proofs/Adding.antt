@@ -5,7 +5,7 @@ use Rattle.std.proofs.lemmas.Bool.Decides.{nat_tests}
 use mathlib.Core.List.{IsPrefix}
 use prog.Atomic.{either}
 use Rattle.logbook.specs.Pages.{Cell, cell, keeps, no_nib, step, Moves, Goes}
-use Rattle.pf_facts.proofs.Prefixes.{prefix_whole}
+use Rattle.pf_lemmas.proofs.Prefixes.{prefix_whole}
 use Rattle.pf_share.specs.declared.story.Story.{Story}
 use Rattle.pf_share.specs.Stories.{CountsStories, Adds}
 

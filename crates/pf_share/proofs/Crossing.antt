@@ -6,7 +6,7 @@ use Rattle.std.proofs.Crossing.{crosses}
 use Rattle.std.proofs.marker.PhantomData.TheSendSync as phantom
 use Rattle.pf_order.proofs.meter.Meter.TheSendSync as meter
 use Rattle.pf_scenario.proofs.scenario.Scenario.TheSendSync as scenario
-use Rattle.pf_list.proofs.shared_vec.SharedVec.TheSendSync as shared_vec
+use Rattle.pf_collections.proofs.list.shared_vec.SharedVec.TheSendSync as shared_vec
 use Rattle.pf_place.proofs.rows.Rows.TheSendSync as rows
 use Rattle.pf_run.proofs.denied.Denied.TheSendSync as denied
 use Rattle.pf_engine.proofs.engine.Engine.TheSendSync as engine

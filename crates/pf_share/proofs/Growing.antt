@@ -5,7 +5,7 @@ use mathlib.Core.List.{IsPrefix}
 use lib.ListN.{get_elem?}
 use Rattle.atomic_table.proofs.Lists.{at_set, at_snoc}
 use Rattle.left_right.specs.Register.{Forks, Merges}
-use Rattle.pf_facts.proofs.Prefixes.{prefix_self, prefix_trans}
+use Rattle.pf_lemmas.proofs.Prefixes.{prefix_self, prefix_trans}
 use Rattle.pf_desk.specs.declared.entry.Entry.{Entry}
 use Rattle.pf_share.specs.declared.reads.Reads.{Reads}
 use Rattle.pf_share.specs.Stories.{Stamped}

@@ -7,8 +7,8 @@ use Rattle.pf_tally.specs.declared.extremes.Extremes.{Extremes}
 use Rattle.pf_tally.specs.declared.figures.Figures.{Figures}
 use Rattle.pf_tally.specs.Figures.{figures_of}
 use Rattle.pf_desk.specs.Desk.{Seen}
-use Rattle.pf_names.specs.declared.titles.Titles.{Titles}
-use Rattle.pf_name_column.specs.Column.{name_fields, name_heading}
+use Rattle.pf_vocabulary.specs.declared.names.titles.Titles.{Titles}
+use Rattle.pf_vocabulary.specs.NameColumn.Column.{name_fields, name_heading}
 use Rattle.pf_text.specs.Page.{table_text}
 
 -- the response of no job is empty

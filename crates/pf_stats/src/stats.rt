@@ -3,11 +3,11 @@ ghost use Rattle.pf_text.specs.Page.{with_field, with_record};
 ghost use Rattle.pf_stats.specs.Stats.{figures_record, greatest_field, least_field, named_figures_record, stats_text, task_fields, time_fields, work_fields};
 
 use pf_desk::snapshot::Snapshot;
-use pf_name_column::column::{push_heading, show_name};
-use pf_names::titles::Titles;
 use pf_tally::extremes::Extremes;
 use pf_tally::figures::Figures;
 use pf_text::table::Table;
+use pf_vocabulary::name_column::column::{push_heading, show_name};
+use pf_vocabulary::names::titles::Titles;
 use std::alloc::{AllocError, Global};
 
 /// Adds the field of the least, which is empty where there is none.

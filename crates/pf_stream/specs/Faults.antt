@@ -1,6 +1,6 @@
 -- The fault of a task whose script was not read, or whose text was not put or written.
-use Rattle.pf_fault.specs.declared.fault.Fault.{Fault}
-use Rattle.pf_fault.specs.declared.fault.Fault.TheVariants as why
+use Rattle.pf_vocabulary.specs.declared.fault.fault.Fault.{Fault}
+use Rattle.pf_vocabulary.specs.declared.fault.fault.Fault.TheVariants as why
 use Rattle.pf_stream.specs.declared.output_fault.OutputFault.{OutputFault}
 use Rattle.pf_stream.specs.declared.output_fault.OutputFault.TheVariants as output
 use Rattle.pf_stream.specs.declared.reading.ReadingFault.{ReadingFault}

@@ -3,3 +3,6 @@ pub mod Failing
 pub mod Faults
 pub mod Reading
 pub mod Written
+pub mod Dialogue
+pub mod HeldAnswers
+pub mod Pipes

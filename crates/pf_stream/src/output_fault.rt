@@ -3,7 +3,7 @@ ghost use Rattle.pf_stream.specs.declared.output_fault.OutputFault.TheVariants a
 ghost use Rattle.pf_stream.specs.Faults.{fault_of_output};
 
 use crate::writing::WriteFault;
-use pf_fault::fault::Fault;
+use pf_vocabulary::fault::fault::Fault;
 use std::alloc::AllocError;
 
 /// Why a text was not put or written.

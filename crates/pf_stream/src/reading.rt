@@ -3,7 +3,7 @@ ghost use Rattle.pf_stream.specs.Faults.{fault_of_reading};
 ghost use Rattle.pf_stream.specs.Reading.{longest_script, ReadsScript, TakesAtMost, CountsRead};
 
 use crate::source::Source;
-use pf_fault::fault::Fault;
+use pf_vocabulary::fault::fault::Fault;
 use std::alloc::Global;
 
 /// The greatest length of a script, in bytes.

@@ -41,7 +41,7 @@ pub fn write_out<W: Sink>(writer: &mut W, text: &[u8]) -> Result<(), WriteFault>
 /// # Errors
 ///
 /// Where a write fails or memory is refused: the writer has a front of the text, and no more pieces may be asked for.
-#[tactic(auto, using(crate::proofs::Sending::piece_written, crate::proofs::Sending::piece_stopped, crate::proofs::Sending::all_written, pf_facts::proofs::Options::anyway))]
+#[tactic(auto, using(crate::proofs::Sending::piece_written, crate::proofs::Sending::piece_stopped, crate::proofs::Sending::all_written, pf_lemmas::proofs::Options::anyway))]
 pub fn write_pieces<P: Pieces, W: Sink>(
     alloc: Global,
     writer: &mut W,

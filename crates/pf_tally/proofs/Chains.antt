@@ -6,7 +6,7 @@ use Rattle.std.proofs.lemmas.Bool.{cases_lt, cond-true, cond-false, lt-ltb, le-l
 use Rattle.std.proofs.lemmas.List.Folds.{fold-map}
 use Rattle.std.proofs.lemmas.List.Elements.{All-head, All-tail}
 use Rattle.std.proofs.lemmas.List.Sums.{sum_by-cons, sum_by_push, sum_by-append}
-use Rattle.pf_facts.proofs.Ranges.{range_more}
+use Rattle.pf_lemmas.proofs.Ranges.{range_more}
 use Rattle.pf_weight.specs.Share.{Share, IsShare}
 use Rattle.pf_window.specs.Window.{release_of}
 use Rattle.pf_scenario.specs.declared.event.Event.{Event}

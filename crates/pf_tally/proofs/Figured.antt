@@ -22,7 +22,7 @@ use Rattle.pf_run.specs.Inside.{Joined, join_of, shift_of}
 use Rattle.pf_run.specs.Run.{events_in_force}
 use Rattle.pf_run.specs.Computed.{run_of}
 use Rattle.pf_run.proofs.Joins.{joined_differ}
-use Rattle.pf_table.specs.Lists.{noted_of}
+use Rattle.pf_collections.specs.Table.Lists.{noted_of}
 use Rattle.pf_tally.specs.Clock.{release_at, clock_of}
 use Rattle.pf_tally.specs.Held.{CanTally, next_in, held_from, stopped_below}
 use Rattle.pf_tally.specs.Lags.{task_cmp, by_task}

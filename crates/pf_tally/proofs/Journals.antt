@@ -20,8 +20,8 @@ use Rattle.pf_run.specs.Computed.{run_of}
 use Rattle.pf_run.specs.RunRows.{AreOfRun}
 use Rattle.pf_scenario.proofs.Sorting.{sorted_keeps}
 use Rattle.pf_run.proofs.Joins.{joined_differ}
-use Rattle.pf_table.specs.Grown.{value_of}
-use Rattle.pf_table.specs.Lists.{noted_of}
+use Rattle.pf_collections.specs.Table.Grown.{value_of}
+use Rattle.pf_collections.specs.Table.Lists.{noted_of}
 use Rattle.pf_tally.specs.Lags.{task_cmp, by_task, lag_of, lags_of}
 use Rattle.pf_tally.specs.Held.{CanTally, IsSmall, next_in, held_from, stopped_below}
 use Rattle.pf_tally.specs.Journal.{IsJournal}

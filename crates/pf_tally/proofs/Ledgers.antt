@@ -19,7 +19,7 @@ use Rattle.pf_tally.specs.declared.held.Held.{Held}
 use Rattle.pf_tally.specs.declared.miss.Miss.{Miss}
 use Rattle.pf_tally.specs.Ledger.{IsLedger}
 use Rattle.pf_tally.specs.Log.{IsLog}
-use Rattle.pf_table.specs.Lists.{noted_of}
+use Rattle.pf_collections.specs.Table.Lists.{noted_of}
 use Rattle.pf_tally.specs.Noted.{IsRow, IsTableOf}
 use Rattle.pf_tally.specs.Own.{events_of_task, AreDiaries}
 use Rattle.pf_tally.specs.Quanta.{slots_of, slots_in}

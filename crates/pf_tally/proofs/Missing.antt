@@ -15,7 +15,7 @@ use Rattle.std.proofs.lemmas.List.Elements.{filter-append, Contains-append_cases
 use Rattle.std.proofs.lemmas.List.FromFn.{length-range_with_len, get_or-range_with_len}
 use Rattle.std.proofs.lemmas.List.Kept.{AllPairs-filter}
 use Rattle.std.proofs.lemmas.List.Sums.{sum_by-le-sum_by}
-use Rattle.pf_facts.proofs.Ranges.{range_more}
+use Rattle.pf_lemmas.proofs.Ranges.{range_more}
 use Rattle.pf_weight.specs.Share.{IsShare}
 use Rattle.pf_window.specs.Window.{deadline_of}
 use Rattle.pf_scenario.specs.Scenario.{Plan}

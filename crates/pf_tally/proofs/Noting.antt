@@ -10,7 +10,7 @@ use Rattle.std.proofs.lemmas.List.Folds.{list_any_more}
 use Rattle.pf_order.specs.declared.pick.Pick.{Pick}
 use Rattle.pf_place.specs.Occupancy.{sitter, sitters, is_seated, NoTaskTwice}
 use Rattle.pf_run.proofs.Containing.{contains_head, contains_tail, pairs_head, pairs_tail}
-use Rattle.pf_table.specs.Lists.{noted_of}
+use Rattle.pf_collections.specs.Table.Lists.{noted_of}
 use Rattle.pf_tally.specs.Noted.{IsRow, AreNoted, IsTableOf}
 use Rattle.pf_tally.proofs.Places.{places_push}
 

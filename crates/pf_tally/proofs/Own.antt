@@ -7,7 +7,7 @@ use Rattle.std.proofs.lemmas.List.{append-nil, take_all, take_more}
 use Rattle.std.proofs.lemmas.List.Elements.{All-filter, filter-append}
 use Rattle.std.proofs.lemmas.Map.Views.{any-filter_same}
 use Rattle.std.proofs.lemmas.List.Sums.{sum_by-cons, length-filter, count_by-le-length}
-use Rattle.pf_facts.proofs.Filters.{filter_same}
+use Rattle.pf_lemmas.proofs.Filters.{filter_same}
 use Rattle.pf_window.specs.Window.{release_of}
 use Rattle.pf_scenario.specs.Event.{slot_of, task_of, is_leave_of}
 use Rattle.pf_scenario.specs.declared.event.Event.{Event}
@@ -20,7 +20,7 @@ use Rattle.pf_tally.specs.Clock.{Stop, next_at, stop_by, stops_behind, is_stoppe
 use Rattle.pf_tally.specs.Misses.{leaves_after}
 use Rattle.pf_tally.specs.Log.{RiseFrom}
 use Rattle.pf_tally.specs.Held.{delay_from, CanTally}
-use Rattle.pf_table.specs.Lists.{noted_of}
+use Rattle.pf_collections.specs.Table.Lists.{noted_of}
 use Rattle.pf_tally.specs.Own.{is_own, events_of_task, AreDiaries}
 
 -- an event of another task, or of none, holds nothing back, stops no clock and is no leave

@@ -3,7 +3,7 @@ use Rattle.std.proofs.Common.{◌≡◌, ℕ, ◌≤◌, ◌==◌, Bool, true, f
 use Rattle.std.specs.List.{list_any}
 use Rattle.std.proofs.lemmas.Bool.{not-true, eqb-true, eq-eqb, leb-true, le-leb, cond-true, both_ways}
 use Rattle.std.proofs.lemmas.Option.{cond_some}
-use Rattle.pf_facts.proofs.Filters.{to_filter_map}
+use Rattle.pf_lemmas.proofs.Filters.{to_filter_map}
 use Rattle.pf_order.specs.Priority.{Priority}
 use Rattle.pf_order.specs.First.{AreFirst}
 use Rattle.pf_order.specs.declared.pick.Pick.{Pick}

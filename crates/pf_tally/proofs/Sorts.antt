@@ -10,7 +10,7 @@ use Rattle.std.proofs.lemmas.Bool.{true≢false, cases_Bool, cond-true, cond-fal
 use Rattle.std.proofs.lemmas.List.Kept.{AllPairs-cons}
 use Rattle.std.proofs.lemmas.List.Sums.{sum_by-cons, get_or-le-sum_by}
 use Rattle.std.proofs.lemmas.List.Sorted.{IsPermutation-sym, IsPermutation-trans, Contains-permutation, sum_by-IsPermutation, ranks_by, sorted_far}
-use Rattle.pf_facts.proofs.Orders.{is_equal}
+use Rattle.pf_lemmas.proofs.Orders.{is_equal}
 use Rattle.pf_scenario.specs.Sorted.{sorted_by}
 use Rattle.pf_scenario.proofs.Lists.{AllPairs-from_pairs}
 use Rattle.pf_scenario.proofs.Sorting.{after, not_after, sorted_keeps, IsInOrder-sorted_by}

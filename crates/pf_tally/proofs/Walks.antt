@@ -16,8 +16,8 @@ use Rattle.pf_scenario.specs.declared.event.Event.TheVariants.{Join, Leave, Dela
 use Rattle.pf_scenario.specs.declared.event.Numbered.{Numbered}
 use Rattle.pf_scenario.specs.declared.limits.TheConstants.{LONGEST_DELAY}
 use Rattle.pf_run.specs.Inside.{Joined}
-use Rattle.pf_table.specs.Grown.{Grown, value_of, size_of, with_value, grown_to}
-use Rattle.pf_table.specs.Lists.{noted_of}
+use Rattle.pf_collections.specs.Table.Grown.{Grown, value_of, size_of, with_value, grown_to}
+use Rattle.pf_collections.specs.Table.Lists.{noted_of}
 use Rattle.pf_scenario.specs.System.{System}
 use Rattle.pf_scenario.specs.Edit.{IsEvent}
 use Rattle.pf_scenario.specs.declared.settings.TheConstants.{WIDE_HORIZON}

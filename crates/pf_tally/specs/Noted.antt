@@ -3,7 +3,7 @@ use Rattle.std.specs.Prelude.{◌≡◌, ℕ, cond, Option, List, [], ◌∷◌,
 use Rattle.pf_order.specs.declared.pick.Pick.{Pick}
 use Rattle.pf_place.specs.Occupancy.{is_seated}
 pub use Rattle.pf_place.specs.Turns.{IsRow}
-use Rattle.pf_table.specs.Lists.{noted_of}
+use Rattle.pf_collections.specs.Table.Lists.{noted_of}
 use Rattle.pf_tally.specs.Quanta.{slots_in}
 
 -- the slot t was noted of those tasks that sit on these places

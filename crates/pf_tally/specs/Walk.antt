@@ -10,8 +10,8 @@ use Rattle.pf_scenario.specs.declared.event.Event.TheVariants.{Delay}
 use Rattle.pf_scenario.specs.declared.event.Numbered.{Numbered}
 use Rattle.pf_scenario.specs.declared.settings.TheConstants.{WIDE_HORIZON}
 use Rattle.pf_run.specs.Inside.{Joined}
-use Rattle.pf_table.specs.Grown.{value_of}
-use Rattle.pf_table.specs.Lists.{noted_of}
+use Rattle.pf_collections.specs.Table.Grown.{value_of}
+use Rattle.pf_collections.specs.Table.Lists.{noted_of}
 use Rattle.pf_tally.specs.Held.{delay_from, next_in, held_from}
 use Rattle.pf_tally.specs.Late.{due_at, ran_late}
 use Rattle.pf_tally.specs.Quanta.{slots_in}

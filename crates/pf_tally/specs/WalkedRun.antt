@@ -6,7 +6,7 @@ use Rattle.pf_run.specs.declared.denied.Denied.{Denied}
 use Rattle.pf_run.specs.Inside.{Joined, join_of}
 use Rattle.pf_run.specs.RunRows.{AreOfRun}
 use Rattle.pf_scenario.specs.declared.settings.TheConstants.{WIDE_HORIZON}
-use Rattle.pf_table.specs.Lists.{noted_of}
+use Rattle.pf_collections.specs.Table.Lists.{noted_of}
 use Rattle.pf_tally.specs.Held.{CanTally, next_in, held_from}
 use Rattle.pf_tally.specs.Journal.{IsJournal}
 use Rattle.pf_tally.specs.Walk.{IsAt}

@@ -1,8 +1,8 @@
 ghost use Rattle.std.specs.Prelude.{◌≡◌, IfOk};
 ghost use Rattle.pf_tally.specs.Own.{AreDiaries};
 
+use pf_collections::table::lists::Lists;
 use pf_scenario::event::Numbered;
-use pf_table::lists::Lists;
 use std::alloc::{AllocError, Global};
 
 /// Of each task number the task's own events, in their order: one walk over the events.

@@ -2,13 +2,13 @@ ghost use Rattle.std.specs.Prelude.{◌≡◌, false, All, AllPairs, filter, not
 ghost use Rattle.pf_scenario.specs.Edit.{IsEvent, join_alike};
 ghost use Rattle.pf_run.specs.Inside.{is_leave_of, has_left, inside};
 ghost use Rattle.pf_tally.specs.Lags.{by_task};
-ghost use Rattle.pf_table.specs.Lists.{noted_of};
+ghost use Rattle.pf_collections.specs.Table.Lists.{noted_of};
 ghost use Rattle.pf_tally.specs.Own.{AreDiaries};
 
 use crate::admitted::{Admitted, admitted_tasks};
+use pf_collections::table::lists::Lists;
 use pf_scenario::event::{Event, Numbered};
 use pf_scenario::settings::Settings;
-use pf_table::lists::Lists;
 use std::alloc::{AllocError, Global};
 
 /// Whether the event is a leave of the task.

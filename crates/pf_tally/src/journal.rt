@@ -5,12 +5,12 @@ ghost use Rattle.pf_tally.specs.Journal.{IsJournal};
 use crate::admitted::Admitted;
 use crate::diary::diaries_by_task;
 use crate::standing::standing_events;
+use pf_collections::table::lists::Lists;
 use pf_place::rows::Rows;
 use pf_run::denied::Denied;
 use pf_scenario::event::Numbered;
 use pf_scenario::scenario::Scenario;
 use pf_scenario::settings::Settings;
-use pf_table::lists::Lists;
 use std::alloc::{AllocError, Global};
 
 /// The events in force in a run.
@@ -26,7 +26,7 @@ pub(crate) struct Journal {
 }
 
 impl Journal {
-    ghost use Rattle.pf_table.specs.Lists.{noted_of};
+    ghost use Rattle.pf_collections.specs.Table.Lists.{noted_of};
 
     /// The task's own events in force, in run order.
     pub fn diary(&self, task: Admitted) -> &[Numbered]

@@ -5,12 +5,12 @@ ghost use Rattle.pf_tally.specs.Ledger.{IsLedger};
 use crate::admitted::Admitted;
 use crate::journal::{Journal, make_journal};
 use crate::quanta::quanta_by_task;
+use pf_collections::table::lists::Lists;
 use pf_place::rows::Rows;
 use pf_run::denied::Denied;
 use pf_scenario::event::Numbered;
 use pf_scenario::scenario::Scenario;
 use pf_scenario::settings::Settings;
-use pf_table::lists::Lists;
 use std::alloc::{AllocError, Global};
 
 /// What a tally rests on.
@@ -40,7 +40,7 @@ impl Drop for Ledger {
 }
 
 impl Ledger {
-    ghost use Rattle.pf_table.specs.Lists.{noted_of};
+    ghost use Rattle.pf_collections.specs.Table.Lists.{noted_of};
 
     /// The task's own events in force, in run order.
     pub fn diary(&self, task: Admitted) -> &[Numbered]

@@ -1,12 +1,12 @@
 ghost use Rattle.std.specs.Prelude.{◌≡◌, All, IfOk, OnOk};
 ghost use Rattle.pf_place.specs.Lent.{lent_row};
-ghost use Rattle.pf_table.specs.Lists.{noted_of};
+ghost use Rattle.pf_collections.specs.Table.Lists.{noted_of};
 ghost use Rattle.pf_tally.specs.Noted.{IsRow, AreNoted, IsTableOf};
 
 use crate::admitted::Admitted;
+use pf_collections::table::lists::Lists;
 use pf_place::row_view::RowView;
 use pf_place::rows::Rows;
-use pf_table::lists::Lists;
 use std::alloc::{AllocError, Global};
 
 /// Notes of the tasks of the row that they run in slot t.

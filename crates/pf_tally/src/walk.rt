@@ -8,8 +8,8 @@ ghost use Rattle.pf_scenario.specs.declared.settings.TheConstants.{WIDE_HORIZON}
 ghost use Rattle.pf_run.specs.Inside.{Joined, join_of};
 ghost use Rattle.pf_place.specs.Lent.{lent_row};
 ghost use Rattle.pf_place.specs.Occupancy.{is_seated};
-ghost use Rattle.pf_table.specs.Grown.{value_of};
-ghost use Rattle.pf_table.specs.Lists.{noted_of};
+ghost use Rattle.pf_collections.specs.Table.Grown.{value_of};
+ghost use Rattle.pf_collections.specs.Table.Lists.{noted_of};
 ghost use Rattle.pf_tally.specs.Log.{IsLog};
 ghost use Rattle.pf_tally.specs.Noted.{IsRow};
 ghost use Rattle.pf_tally.specs.Walk.{AreApart, IsNew, AreWithin, IsWithin, HaveRun, IsHeldBack, HasEvent, HasWalked, IsAt};
@@ -18,12 +18,12 @@ use crate::admitted::{Admitted, admitted_tasks};
 use crate::held::Held;
 use crate::miss::Miss;
 use crate::progress::Progress;
+use pf_collections::table::lists::Lists;
+use pf_collections::table::table::Table;
 use pf_place::row_view::RowView;
 use pf_place::rows::Rows;
 use pf_scenario::event::{Event, Numbered};
 use pf_scenario::settings::Settings;
-use pf_table::lists::Lists;
-use pf_table::table::Table;
 use pf_weight::task::number_of;
 use std::alloc::{AllocError, Global};
 

@@ -2,3 +2,5 @@ pub mod Digits
 pub mod Recorded
 pub mod Filled
 mod Flexible
+pub mod ColumnsLemmas
+pub mod RowsLemmas

@@ -6,3 +6,5 @@ pub mod Pieces
 pub mod Quoted
 pub mod Records
 pub mod Sheets
+pub mod Columns
+pub mod Rows

@@ -3,8 +3,8 @@ ghost use Rattle.std.specs.List.{slice_index_or};
 ghost use Rattle.pf_timeline.specs.Keeping.{IsLastAt, last_at, next_due};
 
 use crate::checkpoint::Checkpoint;
+use pf_collections::list::shared_list::SharedList;
 use pf_engine::engine::Engine;
-use pf_list::shared_list::SharedList;
 use std::alloc::{AllocError, Global};
 use std::marker::Model;
 

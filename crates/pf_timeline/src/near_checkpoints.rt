@@ -4,8 +4,8 @@ ghost use Rattle.pf_timeline.specs.Keeping.{IsLastAt, IsLastOf, Trims, last_at, 
 
 use crate::checkpoint::Checkpoint;
 use crate::checkpoints::Checkpoints;
+use pf_collections::list::shared_list::SharedList;
 use pf_engine::engine::Engine;
-use pf_list::shared_list::SharedList;
 use std::alloc::{AllocError, Global};
 use std::marker::Model;
 use std::mem::replace;

@@ -13,9 +13,9 @@ ghost use Rattle.pf_timeline.specs.declared.fault.NewFault.TheVariants.{BadSetti
 use crate::checkpoints::Checkpoints;
 use crate::fault::{NewFault, StepFault};
 use crate::near_checkpoints::{NearCheckpoints, last_of};
+use pf_collections::list::shared_vec::SharedVec;
 use pf_engine::denied::Denied;
 use pf_engine::engine::Engine;
-use pf_list::shared_vec::SharedVec;
 use pf_order::meter::Meter;
 use pf_place::rows::Rows;
 use pf_scenario::limits::LARGEST_DISTANCE;

@@ -9,13 +9,13 @@ use Rattle.std.proofs.lemmas.List.{append-nil, get_or_default}
 use Rattle.std.proofs.lemmas.List.Folds.{find_at}
 use Rattle.std.proofs.lemmas.Option.{get_or_from_slice_get, slice_get_within}
 use Rattle.pf_weight.specs.declared.task.TheConstants.{LARGEST_TASK}
-use Rattle.pf_names.specs.declared.titles.Titles.{Titles}
+use Rattle.pf_vocabulary.specs.declared.names.titles.Titles.{Titles}
 use Rattle.pf_run.specs.Computed.{run_of}
 use Rattle.pf_run.specs.Inside.{Joined, join_of}
 use Rattle.pf_run.specs.Run.{events_in_force}
 use Rattle.pf_scenario.specs.Scenario.{Plan}
 use Rattle.pf_scenario.specs.declared.event.Numbered.{Numbered}
-use Rattle.pf_table.specs.Lists.{noted_of}
+use Rattle.pf_collections.specs.Table.Lists.{noted_of}
 use Rattle.pf_tally.specs.Held.{CanTally}
 use Rattle.pf_tally.specs.Lags.{by_task}
 use Rattle.pf_run.specs.declared.denied.Denied.{Denied}

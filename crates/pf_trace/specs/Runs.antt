@@ -8,7 +8,7 @@ use Rattle.pf_courses.specs.declared.window.Window.{Window}
 use Rattle.pf_tally.specs.declared.level.Level.{Level}
 use Rattle.pf_order.specs.declared.pick.Pick.{Pick}
 use Rattle.pf_place.specs.Occupancy.{sitter}
-use Rattle.pf_table.specs.Lists.{noted_of}
+use Rattle.pf_collections.specs.Table.Lists.{noted_of}
 use Rattle.pf_trace.specs.Books.{book_text}
 use Rattle.pf_trace.specs.Courses.{Course, window_running}
 use Rattle.pf_trace.specs.Lines.{seat_line, units_line}

@@ -2,13 +2,13 @@
 use Rattle.std.specs.Prelude.{ℕ, ◌*◌, Option, None, Some, List}
 use Rattle.std.specs.Fmt.{decimal}
 use Rattle.std.specs.Option.{unwrap_or}
-use Rattle.pf_names.specs.Names.{name_of}
-use Rattle.pf_names.specs.Titled.{label_of}
-use Rattle.pf_names.specs.declared.named.Named.{Named}
-use Rattle.pf_names.specs.declared.slot_length.SlotLength.{SlotLength}
-use Rattle.pf_names.specs.declared.titles.Titles.{Titles}
-use Rattle.pf_names.specs.declared.unit.Unit.{Unit}
-use Rattle.pf_names.specs.declared.unit.Unit.TheVariants.{Nanosecond, Microsecond, Millisecond, Second}
+use Rattle.pf_vocabulary.specs.Names.Names.{name_of}
+use Rattle.pf_vocabulary.specs.Names.Titled.{label_of}
+use Rattle.pf_vocabulary.specs.declared.names.named.Named.{Named}
+use Rattle.pf_vocabulary.specs.declared.names.slot_length.SlotLength.{SlotLength}
+use Rattle.pf_vocabulary.specs.declared.names.titles.Titles.{Titles}
+use Rattle.pf_vocabulary.specs.declared.names.unit.Unit.{Unit}
+use Rattle.pf_vocabulary.specs.declared.names.unit.Unit.TheVariants.{Nanosecond, Microsecond, Millisecond, Second}
 
 -- the nanoseconds of a unit
 abbrev pub unit_length : Unit → ℕ

@@ -5,7 +5,7 @@ use Rattle.std.specs.Option.{option_map}
 use Rattle.pf_weight.specs.declared.task.TheConstants.{LARGEST_TASK}
 use Rattle.pf_admit.specs.declared.denial.Denial.{Denial}
 use Rattle.pf_tally.specs.Levels.{levels_of}
-use Rattle.pf_names.specs.declared.titles.Titles.{Titles}
+use Rattle.pf_vocabulary.specs.declared.names.titles.Titles.{Titles}
 use Rattle.pf_order.specs.declared.pick.Pick.{Pick}
 use Rattle.pf_run.specs.Computed.{run_of}
 use Rattle.pf_run.specs.Inside.{Joined, join_of}
@@ -16,7 +16,7 @@ use Rattle.pf_scenario.specs.Scenario.{Plan, past}
 use Rattle.pf_scenario.specs.declared.event.Numbered.{Numbered}
 use Rattle.pf_tally.specs.Figures.{processors_in}
 use Rattle.pf_tally.specs.Lags.{by_task}
-use Rattle.pf_table.specs.Lists.{noted_of}
+use Rattle.pf_collections.specs.Table.Lists.{noted_of}
 use Rattle.pf_tally.specs.Held.{CanTally}
 use Rattle.pf_tally.specs.Ledger.{IsLedger}
 use Rattle.pf_tally.specs.Own.{events_of_task}

@@ -2,8 +2,8 @@ ghost use Rattle.std.specs.Prelude.{◌≡◌, ◌==◌, find, IfOk};
 ghost use Rattle.pf_trace.specs.Trace.{CanTrace, IsRunLedger, course_found};
 
 use crate::course::Course;
+use pf_collections::table::lists::Lists;
 use pf_desk::snapshot::Snapshot;
-use pf_table::lists::Lists;
 use pf_tally::admitted::{Admitted, admitted_by_number};
 use pf_tally::ledger::{Ledger, make_ledger};
 use pf_tally::processors::{processors_by_task, processors_of};

@@ -6,9 +6,9 @@ ghost use Rattle.pf_trace.specs.Runs.{row_lines, seat_lines, sitter_lines, trace
 use crate::form::push_filled;
 use crate::task_trace::TaskTrace;
 use crate::title::Title;
+use pf_collections::table::lists::Lists;
 use pf_order::pick::Pick;
 use pf_place::row_view::RowView;
-use pf_table::lists::Lists;
 use pf_tally::level::Level;
 use std::alloc::AllocError;
 

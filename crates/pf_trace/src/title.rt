@@ -1,13 +1,13 @@
 ghost use Rattle.std.specs.Prelude.{◌≡◌, IfOk};
 ghost use Rattle.std.specs.String.{string_bytes};
-ghost use Rattle.pf_names.specs.Titled.{label_of};
+ghost use Rattle.pf_vocabulary.specs.Names.Titled.{label_of};
 ghost use Rattle.pf_trace.specs.Titles.{step_of, tag_of, title_of, unit_length};
 
-use pf_names::names::Names;
-use pf_names::slot_length::SlotLength;
-use pf_names::titles::{Titles, label_of};
-use pf_names::unit::Unit;
 use pf_text::numbers::push_number;
+use pf_vocabulary::names::names::Names;
+use pf_vocabulary::names::slot_length::SlotLength;
+use pf_vocabulary::names::titles::{Titles, label_of};
+use pf_vocabulary::names::unit::Unit;
 use std::alloc::{AllocError, Global};
 use std::marker::Model;
 

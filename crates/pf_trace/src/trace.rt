@@ -2,7 +2,7 @@ ghost use Rattle.std.specs.Prelude.{◌≡◌, ◌==◌, ◌++◌, ◌≤◌, []
 ghost use Rattle.pf_weight.specs.declared.task.TheConstants.{LARGEST_TASK};
 ghost use Rattle.pf_run.specs.Computed.{run_of};
 ghost use Rattle.pf_scenario.specs.declared.settings.TheConstants.{WIDE_HORIZON};
-ghost use Rattle.pf_table.specs.Lists.{noted_of};
+ghost use Rattle.pf_collections.specs.Table.Lists.{noted_of};
 ghost use Rattle.pf_trace.specs.Runs.{trace_at};
 ghost use Rattle.pf_trace.specs.Titles.{title_of};
 ghost use Rattle.pf_tally.specs.Levels.{levels_of};
@@ -16,15 +16,15 @@ use crate::run_ledger::{RunLedger, course_of, run_ledger};
 use crate::task_trace::TaskTrace;
 use crate::title::Title;
 use pf_admit::denial::Denial;
+use pf_collections::table::lists::Lists;
 use pf_desk::snapshot::Snapshot;
-use pf_names::titles::Titles;
 use pf_run::denied::Denied;
 use pf_scenario::event::Numbered;
-use pf_table::lists::Lists;
 use pf_tally::diary::diaries_by_task;
 use pf_tally::level::Level;
 use pf_tally::levels::levels;
 use pf_text::pieces::{Chain, Whole};
+use pf_vocabulary::names::titles::Titles;
 use pf_weight::task::LARGEST_TASK;
 use std::alloc::{AllocError, Global};
 

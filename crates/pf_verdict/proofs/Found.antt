@@ -17,8 +17,8 @@ use Rattle.pf_run.proofs.Runs.{run_is_computed}
 use Rattle.pf_tally.specs.Misses.{misses_of}
 use Rattle.pf_tally.specs.Load.{load_in, room_in}
 use Rattle.pf_tally.specs.Room.{LeavesRoom, MissesNone}
-use Rattle.pf_promise.proofs.Promises.{no_window_is_missed}
-use Rattle.pf_promise.proofs.Settings.{settings_suffice}
+use Rattle.pf_laws.proofs.PromiseLemmas.Promises.{no_window_is_missed}
+use Rattle.pf_laws.proofs.PromiseLemmas.Settings.{settings_suffice}
 use Rattle.pf_desk.specs.Desk.{Seen}
 use Rattle.pf_verdict.specs.declared.verdict.Grounds.{Grounds}
 use Rattle.pf_verdict.specs.declared.verdict.Verdict.TheVariants.{Fits, FitsSoFar, DoesNotFit}

@@ -7,7 +7,7 @@ use Rattle.pf_run.specs.Record.{Slot}
 use Rattle.pf_run.specs.Inside.{Joined, join_of}
 use Rattle.pf_run.specs.Run.{events_in_force}
 use Rattle.pf_run.specs.Computed.{run_of}
-use Rattle.pf_table.specs.Lists.{noted_of}
+use Rattle.pf_collections.specs.Table.Lists.{noted_of}
 use Rattle.pf_tally.specs.Figures.{last_slot}
 use Rattle.pf_tally.specs.Lags.{by_task}
 use Rattle.pf_tally.specs.Ledger.{IsLedger}

@@ -2,7 +2,7 @@
 use Rattle.pf_desk.specs.History.{state_behind}
 use Rattle.pf_desk.specs.Room.{HasRoom}
 use Rattle.pf_desk.proofs.Rooms.{room_goes_on}
-use Rattle.pf_promise.proofs.Settings.{settings_suffice}
+use Rattle.pf_laws.proofs.PromiseLemmas.Settings.{settings_suffice}
 use Rattle.pf_verdict.specs.Room.{RoomMissesNone}
 
 pub room_misses_none : RoomMissesNone

@@ -2,7 +2,7 @@ ghost use Rattle.std.specs.Prelude.{◌≡◌, ◌≤◌, ◌*◌, true, [], All
 ghost use Rattle.pf_run.specs.Computed.{run_of};
 ghost use Rattle.pf_tally.specs.Misses.{misses_of};
 ghost use Rattle.pf_tally.specs.Room.{MissesNone};
-ghost use Rattle.pf_promise.specs.FitLaws.{NoneIsLater};
+ghost use Rattle.pf_laws.specs.Promise.FitLaws.{NoneIsLater};
 ghost use Rattle.pf_verdict.specs.Findings.{findings_of};
 
 use crate::carries::carries_cap;

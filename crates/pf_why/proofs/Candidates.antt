@@ -5,7 +5,7 @@ use Rattle.std.specs.Option.{is_some, option_and_then}
 use Rattle.std.proofs.lemmas.Bool.{le-leb, lt-leb}
 use Rattle.std.proofs.lemmas.List.{append-nil, take_more}
 use Rattle.std.proofs.lemmas.List.Elements.{All-head, All-nil, All-tail, filter-append, filter_map-append}
-use Rattle.pf_facts.proofs.Filters.{to_filter_map, filters_swap, filter_all}
+use Rattle.pf_lemmas.proofs.Filters.{to_filter_map, filters_swap, filter_all}
 use Rattle.pf_scenario.specs.Event.{slot_of, is_leave_of}
 use Rattle.pf_scenario.specs.Scenario.{Plan}
 use Rattle.pf_scenario.specs.declared.event.Numbered.{Numbered}
@@ -14,7 +14,7 @@ use Rattle.pf_run.specs.Record.{Slot, denials_of}
 use Rattle.pf_run.specs.Inside.{Joined, has_left, inside, join_of, shift_of}
 use Rattle.pf_run.specs.Run.{events_in_force}
 use Rattle.pf_run.specs.Computed.{run_of}
-use Rattle.pf_table.specs.Lists.{noted_of}
+use Rattle.pf_collections.specs.Table.Lists.{noted_of}
 use Rattle.pf_tally.specs.Clock.{next_at}
 use Rattle.pf_tally.specs.Held.{CanTally, next_in, held_from}
 use Rattle.pf_tally.specs.Late.{hold_of}

@@ -24,8 +24,8 @@ use Rattle.pf_run.proofs.Joins.{joins_once_in_force, ready_differ}
 use Rattle.pf_run.proofs.Runs.{first_are_computed}
 use Rattle.pf_tally.proofs.Holding.{count_from_cut}
 use Rattle.pf_tally.proofs.Sorts.{sorted_rises}
-use Rattle.pf_promise.proofs.Choosing.{chosen, chosen_first, chosen_picks, eligible_is, front_length, shift_front, sub_front}
-use Rattle.pf_promise.proofs.Shifts.{no_slot}
+use Rattle.pf_laws.proofs.PromiseLemmas.Choosing.{chosen, chosen_first, chosen_picks, eligible_is, front_length, shift_front, sub_front}
+use Rattle.pf_laws.proofs.PromiseLemmas.Shifts.{no_slot}
 use Rattle.pf_why.specs.declared.subtask.Subtask.{Subtask}
 use Rattle.pf_why.specs.Ranking.{candidates_in, may_run, next_of, priority_of, rank_cmp, ranking_in, standing_in, subtask_of}
 use Rattle.pf_why.proofs.Ranked.{none_tie, rank_total, some_of_all}

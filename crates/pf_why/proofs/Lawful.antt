@@ -7,7 +7,7 @@ use Rattle.pf_run.specs.Record.{Slot}
 use Rattle.pf_run.specs.Run.{IsRun}
 use Rattle.pf_run.specs.Computed.{run_of}
 use Rattle.pf_run.proofs.Runs.{computed_length, run_is_computed}
-use Rattle.pf_promise.proofs.Shifts.{no_slot}
+use Rattle.pf_laws.proofs.PromiseLemmas.Shifts.{no_slot}
 use Rattle.pf_why.specs.Laws.{FirstOnesRun, RulesDecide}
 use Rattle.pf_why.proofs.First.{first_ones_run}
 

@@ -1,12 +1,12 @@
 -- The answer about what is seen at the end of a script.
 use Rattle.std.proofs.Common.{ℕ, List, Ok, subst}
 use Rattle.pf_desk.specs.Desk.{Seen}
-use Rattle.pf_fault.specs.declared.answer.Answer.{Answer}
-use Rattle.pf_names.specs.declared.named.Named.{Named}
+use Rattle.pf_vocabulary.specs.declared.fault.answer.Answer.{Answer}
+use Rattle.pf_vocabulary.specs.declared.names.named.Named.{Named}
 use Rattle.pf_script.specs.Told.{told}
-use Rattle.pf_course.specs.Carried.{ShowsEnd}
-use Rattle.pf_course.specs.Course.{outcome_told}
-use Rattle.pf_why_words.specs.declared.question.Question.{Question}
+use Rattle.pf_replies.specs.Carried.{ShowsEnd}
+use Rattle.pf_replies.specs.Course.{outcome_told}
+use Rattle.pf_vocabulary.specs.declared.questions.question.Question.{Question}
 use Rattle.pf_why_answer.specs.Answer.{IsAnswer, WhyMade, seen_told}
 
 -- Use: the script was carried out, and the question answered.

@@ -2,22 +2,22 @@
 use Rattle.std.specs.Prelude.{ℕ, ◌≡◌, nat_lt, if◌then◌else◌, Option, None, Some, Result, Ok, Err, List, [], ◌++◌, codes}
 use Rattle.std.specs.Fmt.{decimal}
 use Rattle.pf_desk.specs.Desk.{Seen}
-use Rattle.pf_fault.specs.declared.answer.Answer.{Answer}
-use Rattle.pf_fault.specs.declared.fault.Fault.{Fault}
-use Rattle.pf_fault.specs.declared.status.Status.{Status}
-use Rattle.pf_fault.specs.declared.status.Status.TheVariants.{Done, BadWords}
-use Rattle.pf_names.specs.Names.{task_of}
-use Rattle.pf_names.specs.declared.named.Named.{Named}
+use Rattle.pf_vocabulary.specs.declared.fault.answer.Answer.{Answer}
+use Rattle.pf_vocabulary.specs.declared.fault.fault.Fault.{Fault}
+use Rattle.pf_vocabulary.specs.declared.fault.status.Status.{Status}
+use Rattle.pf_vocabulary.specs.declared.fault.status.Status.TheVariants.{Done, BadWords}
+use Rattle.pf_vocabulary.specs.Names.Names.{task_of}
+use Rattle.pf_vocabulary.specs.declared.names.named.Named.{Named}
 use Rattle.pf_script.specs.Told.{told}
-use Rattle.pf_course.specs.Carried.{StopsAt}
-use Rattle.pf_course.specs.Course.{ScriptCourse, outcome_told, seen_at}
+use Rattle.pf_replies.specs.Carried.{StopsAt}
+use Rattle.pf_replies.specs.Course.{ScriptCourse, outcome_told, seen_at}
 use Rattle.pf_why_json.specs.Slot.{why_json}
 use Rattle.pf_why_text.specs.Slot.{why_text}
-use Rattle.pf_why_words.specs.declared.question.Question.{Question}
-use Rattle.pf_why_words.specs.declared.question.WhyFormat.{WhyFormat}
-use Rattle.pf_why_words.specs.declared.question.WhyFormat.TheVariants.{Text, Json}
-use Rattle.pf_why_words.specs.declared.task_asked.TaskAsked.{TaskAsked}
-use Rattle.pf_why_words.specs.declared.task_asked.TaskAsked.TheVariants as asked
+use Rattle.pf_vocabulary.specs.declared.questions.question.Question.{Question}
+use Rattle.pf_vocabulary.specs.declared.questions.question.WhyFormat.{WhyFormat}
+use Rattle.pf_vocabulary.specs.declared.questions.question.WhyFormat.TheVariants.{Text, Json}
+use Rattle.pf_vocabulary.specs.declared.questions.task_asked.TaskAsked.{TaskAsked}
+use Rattle.pf_vocabulary.specs.declared.questions.task_asked.TaskAsked.TheVariants as asked
 
 -- what goes to standard output and to standard error, and the status
 pub record Told : Type 0 where

@@ -1,18 +1,18 @@
 ghost use Rattle.std.specs.Prelude.{◌≡◌, ◌<◌, string_bytes, IfOk, IfErr};
-ghost use Rattle.pf_fault.specs.Faults.{IsUnwritten};
+ghost use Rattle.pf_vocabulary.specs.Fault.Faults.{IsUnwritten};
 ghost use Rattle.pf_why_answer.specs.Answer.{IsAnswer, IsQuietIfDone, WhyMade, answer_text, number_in, refused, seen_told, slot_told, unbelow_line, unnamed_line};
 
-use pf_course::at_end::seen_at_end;
 use pf_desk::snapshot::Snapshot;
-use pf_fault::answer::Answer;
-use pf_fault::ending::Ending;
-use pf_fault::fault::Fault;
-use pf_fault::status::Status;
-use pf_names::names::Names;
+use pf_replies::at_end::seen_at_end;
+use pf_vocabulary::fault::answer::Answer;
+use pf_vocabulary::fault::ending::Ending;
+use pf_vocabulary::fault::fault::Fault;
+use pf_vocabulary::fault::status::Status;
+use pf_vocabulary::names::names::Names;
+use pf_vocabulary::questions::question::{Question, WhyFormat};
+use pf_vocabulary::questions::task_asked::TaskAsked;
 use pf_why_json::slot::why_json;
 use pf_why_text::slot::why_text;
-use pf_why_words::question::{Question, WhyFormat};
-use pf_why_words::task_asked::TaskAsked;
 use std::alloc::{AllocError, Global};
 
 /// The number of a task that is asked for; none where its name is that of no task.

@@ -10,7 +10,7 @@ use Rattle.pf_scenario.specs.declared.event.Event.TheVariants.{Join, Leave, Dela
 use Rattle.pf_scenario.specs.declared.event.Numbered.{Numbered}
 use Rattle.pf_run.specs.Record.{Slot}
 use Rattle.pf_run.specs.declared.denied.Denied.{Denied}
-use Rattle.pf_names.specs.declared.named.Named.{Named}
+use Rattle.pf_vocabulary.specs.declared.names.named.Named.{Named}
 use Rattle.pf_notes.specs.Grounds.{grounds_of}
 use Rattle.pf_why_text.specs.Events.{denial_among, sentence_text}
 use Rattle.pf_why_json.specs.declared.numbers.EventNumbers.{EventNumbers}

@@ -5,7 +5,7 @@ use Rattle.std.specs.List.{range_with_len}
 use Rattle.std.specs.Option.{option_map}
 use Rattle.pf_order.specs.declared.pick.Pick.{Pick}
 use Rattle.pf_place.specs.Occupancy.{sitter}
-use Rattle.pf_names.specs.declared.named.Named.{Named}
+use Rattle.pf_vocabulary.specs.declared.names.named.Named.{Named}
 use Rattle.pf_why.specs.declared.seat.Choice.{Choice}
 use Rattle.pf_why.specs.declared.seat.Choice.TheVariants.{Kept, LowestFree, OutOfUse}
 use Rattle.pf_why.specs.declared.seat.Seat.{Seat}

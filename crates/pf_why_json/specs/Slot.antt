@@ -5,7 +5,7 @@ use Rattle.std.specs.Fmt.{decimal}
 use Rattle.pf_scenario.specs.Scenario.{events_of}
 use Rattle.pf_run.specs.Computed.{run_of}
 use Rattle.pf_desk.specs.Desk.{Seen}
-use Rattle.pf_names.specs.declared.named.Named.{Named}
+use Rattle.pf_vocabulary.specs.declared.names.named.Named.{Named}
 use Rattle.pf_why.specs.declared.point.Point.{Point}
 use Rattle.pf_why.specs.declared.subtask.Subtask.{Subtask}
 use Rattle.pf_why_text.specs.declared.whereabouts.Whereabouts.{Whereabouts}

@@ -6,11 +6,11 @@ ghost use Rattle.pf_why_json.specs.Events.{event_front, event_json, event_middle
 
 use crate::members::{push_or_null, push_quoted_or_null};
 use crate::numbers::EventNumbers;
-use pf_names::names::Names;
 use pf_notes::reasons::Reasons;
 use pf_notes::words::push_word;
 use pf_run::denied::Denied;
 use pf_scenario::event::{Event, Numbered};
+use pf_vocabulary::names::names::Names;
 use pf_why_text::events::{denial_among, push_sentence};
 use std::alloc::{AllocError, Global};
 

@@ -5,10 +5,10 @@ ghost use Rattle.pf_why_text.specs.Ranks.{IsSeating, seating_of};
 ghost use Rattle.pf_why_json.specs.Ranks.{by_json, kept_word, order_json, places_json, rank_json, ranks_json, seat_json, sitter_json, subtask_json};
 
 use crate::members::{push_quoted, push_quoted_or_null};
-use pf_names::names::Names;
 use pf_notes::words::{push_between, push_two, push_word};
 use pf_order::pick::Pick;
 use pf_place::row_view::RowView;
+use pf_vocabulary::names::names::Names;
 use pf_why::rule::Rule;
 use pf_why::seat::{Choice, Seat};
 use pf_why::subtask::Subtask;

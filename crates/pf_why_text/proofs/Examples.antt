@@ -11,7 +11,7 @@ use Rattle.pf_run.specs.Record.{done, in_force}
 use Rattle.pf_run.specs.Inside.{inside, load_of, count_of, shift_of, member_of, ready}
 use Rattle.pf_run.specs.Computed.{course_of}
 use Rattle.pf_run.specs.RunRows.{rows_in, denials_in}
-use Rattle.pf_columns.specs.Columns.{padded_from, row_line, width_of, without_end_blanks}
+use Rattle.pf_text.specs.Columns.Columns.{padded_from, row_line, width_of, without_end_blanks}
 use Rattle.pf_why.specs.Ranking.{ranking_in}
 use Rattle.pf_why_text.specs.Slot.{why_text}
 use Rattle.pf_why_text.specs.Examples.{WorkedSlots}

@@ -2,8 +2,8 @@
 use Rattle.std.specs.Prelude.{ℕ, ◌+◌, ◌-◌, ◌==◌, nat_le, nat_lt, if◌then◌else◌, Option, None, Some, List, [], ◌++◌, codes}
 use Rattle.std.specs.Option.{option_map_or}
 use Rattle.std.specs.Fmt.{decimal}
-use Rattle.pf_names.specs.declared.named.Named.{Named}
-use Rattle.pf_names.specs.Names.{name_of}
+use Rattle.pf_vocabulary.specs.declared.names.named.Named.{Named}
+use Rattle.pf_vocabulary.specs.Names.Names.{name_of}
 use Rattle.pf_why.specs.declared.subtask.Subtask.{Subtask}
 use Rattle.pf_why.specs.declared.rule.Rule.{Rule}
 use Rattle.pf_why.specs.declared.rule.Rule.TheVariants.{Deadline, Bit, Group, Task}

@@ -8,8 +8,8 @@ use Rattle.pf_scenario.specs.declared.event.Numbered.{Numbered}
 use Rattle.pf_admit.specs.Refusals.{denial_code, denial_name}
 use Rattle.pf_run.specs.Record.{Slot}
 use Rattle.pf_run.specs.declared.denied.Denied.{Denied}
-use Rattle.pf_names.specs.declared.named.Named.{Named}
-use Rattle.pf_names.specs.Names.{name_of}
+use Rattle.pf_vocabulary.specs.declared.names.named.Named.{Named}
+use Rattle.pf_vocabulary.specs.Names.Names.{name_of}
 use Rattle.pf_notes.specs.Grounds.{grounds_of, grounds_text, task_of_grounds}
 use Rattle.pf_notes.specs.Refusal.{record_text}
 use Rattle.pf_notes.specs.declared.grounds.Grounds.{Grounds}

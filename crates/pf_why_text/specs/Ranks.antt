@@ -5,8 +5,8 @@ use Rattle.std.specs.List.{slice_get}
 use Rattle.std.specs.Option.{option_map}
 use Rattle.pf_order.specs.declared.pick.Pick.{Pick}
 use Rattle.pf_place.specs.Lent.{lent_row}
-use Rattle.pf_columns.specs.Columns.{columns_text}
-use Rattle.pf_names.specs.declared.named.Named.{Named}
+use Rattle.pf_text.specs.Columns.Columns.{columns_text}
+use Rattle.pf_vocabulary.specs.declared.names.named.Named.{Named}
 use Rattle.pf_why.specs.declared.subtask.Subtask.{Subtask}
 use Rattle.pf_why.specs.declared.seat.Seat.{Seat}
 use Rattle.pf_why.specs.Rule.{rule_of, rule_word}

@@ -4,7 +4,7 @@ use Rattle.pf_order.specs.declared.pick.Pick.{Pick}
 use Rattle.pf_scenario.specs.Scenario.{events_of}
 use Rattle.pf_run.specs.Computed.{run_of}
 use Rattle.pf_desk.specs.Desk.{Seen}
-use Rattle.pf_names.specs.declared.named.Named.{Named}
+use Rattle.pf_vocabulary.specs.declared.names.named.Named.{Named}
 use Rattle.pf_why.specs.declared.subtask.Subtask.{Subtask}
 use Rattle.pf_why.specs.Point.{point_of}
 use Rattle.pf_why.specs.declared.point.Point.{Point}

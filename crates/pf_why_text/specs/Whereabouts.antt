@@ -6,8 +6,8 @@ use Rattle.std.specs.Option.{option_and_then, option_map, option_map_or, option_
 use Rattle.pf_scenario.specs.Scenario.{past}
 use Rattle.pf_run.specs.Computed.{run_of}
 use Rattle.pf_desk.specs.Desk.{Seen}
-use Rattle.pf_names.specs.Names.{name_of}
-use Rattle.pf_names.specs.declared.named.Named.{Named}
+use Rattle.pf_vocabulary.specs.Names.Names.{name_of}
+use Rattle.pf_vocabulary.specs.declared.names.named.Named.{Named}
 use Rattle.pf_notes.specs.Absence.{absence_of, absence_text}
 use Rattle.pf_notes.specs.Subject.{task_text}
 use Rattle.pf_why.specs.declared.halt.Halt.{Halt}

@@ -2,7 +2,7 @@ ghost use Rattle.std.specs.Prelude.{◌≡◌, ◌^◌, ◌<◌, string_bytes, I
 ghost use Rattle.pf_why_text.specs.Answer.{answer_text, behind_text, choice_text, does_text, early_text, late_text, rule_text, seat_text, subtask_text};
 ghost use Rattle.pf_why.specs.Rule.{rule_of};
 
-use pf_names::names::Names;
+use pf_vocabulary::names::names::Names;
 use pf_why::rule::Rule;
 use pf_why::seat::{Choice, Seat};
 use pf_why::subtask::Subtask;

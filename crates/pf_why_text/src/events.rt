@@ -1,15 +1,15 @@
 ghost use Rattle.std.specs.Prelude.{◌≡◌, ◌++◌, OnOk};
 ghost use Rattle.std.specs.Option.{option_and_then, option_map};
-ghost use Rattle.pf_names.specs.Names.{name_of};
+ghost use Rattle.pf_vocabulary.specs.Names.Names.{name_of};
 ghost use Rattle.pf_run.specs.Computed.{run_of};
 ghost use Rattle.pf_why_text.specs.Events.{denial_among, denied_text, event_text, events_text, outcome_text, sentence_text};
 
-use pf_names::names::Names;
 use pf_notes::grounds::{Grounds, push_grounds};
 use pf_notes::reasons::Reasons;
 use pf_notes::refusal::push_record;
 use pf_run::denied::Denied;
 use pf_scenario::event::Numbered;
+use pf_vocabulary::names::names::Names;
 use std::alloc::{AllocError, Global};
 
 /// The name of a task, if there is a task, and it has one.

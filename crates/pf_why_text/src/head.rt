@@ -3,9 +3,9 @@ ghost use Rattle.pf_place.specs.Lent.{lent_row};
 ghost use Rattle.pf_why_text.specs.Head.{head_text, load_text, place_text, places_text, sitter_text, slot_text};
 
 use crate::answer::subtask_words;
-use pf_names::names::Names;
 use pf_order::pick::Pick;
 use pf_place::row_view::RowView;
+use pf_vocabulary::names::names::Names;
 use pf_why::point::Point;
 use std::alloc::{AllocError, Global};
 

@@ -4,9 +4,9 @@ ghost use Rattle.pf_why_text.specs.Ranks.{IsSeating, by_text, number_cells, rank
 
 use crate::answer::{answer_words, subtask_words};
 use crate::seating::Seating;
-use pf_columns::columns::push_columns;
-use pf_columns::row::Row;
-use pf_names::names::Names;
+use pf_text::columns::columns::push_columns;
+use pf_text::columns::row::Row;
+use pf_vocabulary::names::names::Names;
 use pf_why::rule::Rule;
 use pf_why::subtask::Subtask;
 use std::alloc::{AllocError, Global};

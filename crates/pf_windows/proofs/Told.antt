@@ -8,7 +8,7 @@ use Rattle.std.proofs.lemmas.Bool.{le-ltb}
 use Rattle.std.proofs.lemmas.List.{take_all}
 use Rattle.std.proofs.lemmas.List.Concat.{flat_map-cons}
 use Rattle.std.proofs.lemmas.Option.{slice_get_past}
-use Rattle.pf_facts.proofs.Ranges.{flat_map_agree}
+use Rattle.pf_lemmas.proofs.Ranges.{flat_map_agree}
 use Rattle.pf_weight.specs.Share.{IsShare, is_heavy}
 use Rattle.pf_window.specs.Window.{bit_of, deadline_of, release_of}
 use Rattle.pf_window.specs.Group.{group_of}
@@ -21,7 +21,7 @@ use Rattle.pf_run.specs.Record.{Slot}
 use Rattle.pf_run.specs.Inside.{Joined, join_of, shift_of}
 use Rattle.pf_run.specs.Run.{events_in_force}
 use Rattle.pf_run.specs.Computed.{run_of}
-use Rattle.pf_table.specs.Lists.{noted_of}
+use Rattle.pf_collections.specs.Table.Lists.{noted_of}
 use Rattle.pf_tally.specs.Figures.{processors_in}
 use Rattle.pf_tally.specs.Held.{CanTally, next_in, held_from}
 use Rattle.pf_tally.specs.Lags.{by_task}
@@ -39,11 +39,11 @@ use Rattle.pf_courses.specs.Built.{quantum_with, window_by}
 use Rattle.pf_courses.specs.Course.{end_of, is_drawn, leave_in, leave_slot, quantum_of, window_of}
 use Rattle.pf_courses.specs.declared.window.Window.{Window}
 use Rattle.pf_courses.proofs.Tracks.{window_is}
-use Rattle.pf_tasks.specs.Listed.{is_listed}
-use Rattle.pf_tasks.specs.declared.task_range.TaskRange.{TaskRange}
-use Rattle.pf_tasks.proofs.Taken.{one_taken, one_left}
-use Rattle.pf_names.specs.declared.titles.Titles.{Titles}
-use Rattle.pf_name_column.specs.Column.{name_fields, with_name}
+use Rattle.pf_vocabulary.specs.Tasks.Listed.{is_listed}
+use Rattle.pf_vocabulary.specs.declared.tasks.task_range.TaskRange.{TaskRange}
+use Rattle.pf_vocabulary.proofs.TasksLemmas.Taken.{one_taken, one_left}
+use Rattle.pf_vocabulary.specs.declared.names.titles.Titles.{Titles}
+use Rattle.pf_vocabulary.specs.NameColumn.Column.{name_fields, with_name}
 use Rattle.pf_text.specs.Page.{Page, with_record}
 use Rattle.pf_text.specs.Sheets.{AddsAtMostOne}
 use Rattle.pf_windows.specs.Told.{NamedTold, Told, named_behind_sub, told_by, told_window, is_shown, sub_count, records_behind_sub}

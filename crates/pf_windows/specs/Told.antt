@@ -3,8 +3,8 @@
 use Rattle.std.specs.Prelude.{ℕ, ◌+◌, ◌-◌, ◌*◌, ◌/◌, min, max, Bool, Option, List, length}
 use Rattle.std.specs.List.{flat_map, range_with_len}
 use Rattle.pf_scenario.specs.declared.event.Numbered.{Numbered}
-use Rattle.pf_names.specs.declared.titles.Titles.{Titles}
-use Rattle.pf_name_column.specs.Column.{with_name}
+use Rattle.pf_vocabulary.specs.declared.names.titles.Titles.{Titles}
+use Rattle.pf_vocabulary.specs.NameColumn.Column.{with_name}
 use Rattle.pf_run.specs.Inside.{Joined}
 use Rattle.pf_tally.specs.Held.{next_in, held_from}
 use Rattle.pf_tally.specs.declared.held.Held.{Held}

@@ -16,9 +16,9 @@ use Rattle.pf_courses.specs.Windows.{eligible_from, window_end}
 use Rattle.pf_courses.specs.declared.quantum.Quantum.{Quantum}
 use Rattle.pf_courses.specs.declared.window.Window.{Window}
 use Rattle.pf_desk.specs.Desk.{Seen}
-use Rattle.pf_names.specs.declared.titles.Titles.{Titles}
-use Rattle.pf_name_column.specs.Column.{name_heading, with_name}
-use Rattle.pf_tasks.specs.declared.task_range.TaskRange.{TaskRange}
+use Rattle.pf_vocabulary.specs.declared.names.titles.Titles.{Titles}
+use Rattle.pf_vocabulary.specs.NameColumn.Column.{name_heading, with_name}
+use Rattle.pf_vocabulary.specs.declared.tasks.task_range.TaskRange.{TaskRange}
 use Rattle.pf_courses.specs.Admitted.{admitted_of}
 use Rattle.pf_text.specs.Page.{table_text}
 use Rattle.pf_windows.specs.declared.slots.Slots.{Slots}

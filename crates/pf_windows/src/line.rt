@@ -1,15 +1,15 @@
 ghost use Rattle.std.specs.Prelude.{◌≡◌, ◌++◌, ◌≤◌, [], OnOk};
 ghost use Rattle.pf_text.specs.Page.{with_record};
-ghost use Rattle.pf_name_column.specs.Column.{name_fields};
+ghost use Rattle.pf_vocabulary.specs.NameColumn.Column.{name_fields};
 ghost use Rattle.pf_windows.specs.Windows.{quantum_fields, window_record};
 
 use pf_courses::quantum::Quantum;
 use pf_courses::window::Window;
 use pf_courses::windows::eligible_from;
-use pf_name_column::column::show_name;
-use pf_names::titles::Titles;
 use pf_tally::admitted::Admitted;
 use pf_text::table::Table;
+use pf_vocabulary::name_column::column::show_name;
+use pf_vocabulary::names::titles::Titles;
 use std::alloc::AllocError;
 
 /// Adds the fields of a quantum: empty where there is none.

@@ -2,9 +2,9 @@ ghost use Rattle.std.specs.Prelude.{◌≡◌};
 
 use crate::line::push_window;
 use crate::task_windows::TaskWindows;
-use pf_names::titles::Titles;
 use pf_text::sheets::Sheet;
 use pf_text::table::Table;
+use pf_vocabulary::names::titles::Titles;
 use std::alloc::AllocError;
 use std::marker::Model;
 

@@ -8,15 +8,15 @@ use crate::slots::Slots;
 use crate::task_windows::TaskWindows;
 use crate::window_sheet::WindowSheet;
 use pf_desk::snapshot::Snapshot;
-use pf_name_column::column::push_heading;
-use pf_names::titles::Titles;
 use pf_tally::admitted::admitted_by_number;
 use pf_tally::ledger::make_ledger;
 use pf_tally::processors::{processors_by_task, processors_of};
-use pf_tasks::task_list::TaskList;
 use pf_text::pieces::{Chain, Whole};
 use pf_text::sheets::SheetPieces;
 use pf_text::table::Table;
+use pf_vocabulary::name_column::column::push_heading;
+use pf_vocabulary::names::titles::Titles;
+use pf_vocabulary::tasks::task_list::TaskList;
 use std::alloc::{AllocError, Global};
 
 /// The windows that a snapshot shows in some of its slots, of each task of a list that was admitted, by its number.

@@ -1,7 +1,7 @@
 //! The texts of faults, which no clause says, beside their numbers.
 
 use pf_cli::run_fault::RunFault;
-use pf_fault::range_fault::RangeFault;
+use pf_vocabulary::fault::range_fault::RangeFault;
 
 #[test]
 fn of_runs_not_carried_out(rt: HostRuntime) {

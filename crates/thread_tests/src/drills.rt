@@ -2,8 +2,8 @@
 
 use crate::gates::{GateShutTo, MeetingGate};
 use pf_drill::drill::drill;
-use pf_fault::fault::Fault;
-use pf_fault::status::Status;
+use pf_vocabulary::fault::fault::Fault;
+use pf_vocabulary::fault::status::Status;
 
 // Three tasks on two processors, and the whole answer.
 const SCRIPT: &[u8] = b"settings,2,3,6,2\njoin,0,1,2,3,0\njoin,0,2,2,3,0\njoin,0,3,2,3,0\nstep,3\n";

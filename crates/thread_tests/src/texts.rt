@@ -1,9 +1,9 @@
 //! The texts of faults, which no clause says.
 
-use pf_fault::fault::Fault;
 use pf_share::fault::OpenFault;
 use pf_share::step_refusal::StepRefusal;
 use pf_share::unread::Unread;
+use pf_vocabulary::fault::fault::Fault;
 use std::fmt::Display;
 use std::process::Abort;
 

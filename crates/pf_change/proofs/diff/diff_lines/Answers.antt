@@ -1,5 +1,5 @@
 use Rattle.std.proofs.Common.{ap}
-use Rattle.pf_course.specs.Course.{opening_course}
+use Rattle.pf_replies.specs.Course.{opening_course}
 use Rattle.pf_change.specs.Change.{course_to_be}
 use Rattle.pf_change.specs.Difference.{told_by}
 use Rattle.pf_change.proofs.Courses.{both_shown, made_at}

@@ -1,6 +1,6 @@
 use Rattle.std.proofs.Common.{ap, ◌∙◌}
 use Rattle.std.proofs.lemmas.Result.{err_from_is_err_and}
-use Rattle.pf_course.specs.Course.{opening_course}
+use Rattle.pf_replies.specs.Course.{opening_course}
 use Rattle.pf_change.specs.Change.{change_behind}
 use Rattle.pf_change.proofs.Records.{lines_made, lines_stop, opening_stops}
 use Rattle.pf_change.proofs.diff.diff_script.Goals as goal

@@ -1,6 +1,6 @@
 use Rattle.std.proofs.Common.{◌≡◌, drop}
-use Rattle.pf_course.specs.Course.{course_behind}
-use Rattle.pf_carrying.specs.Asked.{commands_in}
+use Rattle.pf_replies.specs.Course.{course_behind}
+use Rattle.pf_script_desk.specs.Asked.{commands_in}
 use Rattle.pf_change.specs.Change.{course_to_be}
 use Rattle.pf_change.proofs.taking.show_behind.Given as goal
 

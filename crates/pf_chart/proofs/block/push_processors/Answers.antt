@@ -1,7 +1,7 @@
 use Rattle.std.proofs.Common.{◌∙◌, ◌-◌, ◌++◌, codes, ap}
 use Rattle.std.specs.Fmt.{decimal}
 use Rattle.std.specs.List.{range_with_len}
-use Rattle.pf_facts.proofs.Ranges.{number_next}
+use Rattle.pf_lemmas.proofs.Ranges.{number_next}
 use Rattle.pf_chart.specs.Chart.{line_text, processor_line}
 use Rattle.pf_chart.proofs.block.push_processors.Goals as goal
 

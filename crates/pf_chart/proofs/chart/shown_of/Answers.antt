@@ -1,6 +1,6 @@
 use Rattle.std.proofs.Common.{rules}
 use Rattle.std.proofs.lemmas.Fn.{filter_same}
-use Rattle.pf_tasks.specs.Listed.{is_listed}
+use Rattle.pf_vocabulary.specs.Tasks.Listed.{is_listed}
 use Rattle.pf_courses.specs.Listing.{Listing}
 use Rattle.pf_chart.proofs.chart.shown_of.Goals as goal
 

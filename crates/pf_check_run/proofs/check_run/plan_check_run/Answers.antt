@@ -1,6 +1,6 @@
 use Rattle.std.proofs.Common.{◌≡◌, IfErr, length, rules, true}
-use Rattle.pf_carry.specs.Carried.{Stops}
-use Rattle.pf_rows.specs.Rows.{rows}
+use Rattle.pf_script_run.specs.Carried.{Stops}
+use Rattle.pf_text.specs.Rows.Rows.{rows}
 use Rattle.pf_script.specs.Told.{told}
 use Rattle.pf_check_run.specs.Found.{is_clean}
 use Rattle.pf_check_run.proofs.Unnumbered.{plan_stopped}

@@ -1,7 +1,7 @@
 use Rattle.std.proofs.Common.{◌≡◌, ◌∙◌, ap, arith, length, map}
-use Rattle.pf_plan_check.specs.Checked.{faults}
-use Rattle.pf_plan_check.specs.Unread.{Unread}
-use Rattle.pf_rows.specs.Rows.{rows}
+use Rattle.pf_script.specs.PlanCheck.Checked.{faults}
+use Rattle.pf_script.specs.PlanCheck.Unread.{Unread}
+use Rattle.pf_text.specs.Rows.Rows.{rows}
 use Rattle.pf_check_run.specs.Faults.{plan_shown}
 use Rattle.pf_check_run.proofs.Finding.{found_all}
 use Rattle.pf_check_run.proofs.Plans.{of_plan}

@@ -1,6 +1,6 @@
 use Rattle.std.proofs.Common.{◌≡◌, ◌≤◌, ◌+◌, fold, length, map}
-use Rattle.pf_plan_check.specs.Checked.{faults}
-use Rattle.pf_rows.specs.Rows.{rows}
+use Rattle.pf_script.specs.PlanCheck.Checked.{faults}
+use Rattle.pf_text.specs.Rows.Rows.{rows}
 use Rattle.pf_check_run.specs.Faults.{plan_shown}
 use Rattle.pf_check_run.specs.Lines.{behind_fault, no_lines}
 use Rattle.pf_check_run.proofs.faults.plan_faults.Given as goal

@@ -1,5 +1,5 @@
 use Rattle.std.proofs.Common.{refl}
-use Rattle.pf_words.specs.Asked.{desk_named}
+use Rattle.pf_arguments.specs.Asked.{desk_named}
 use Rattle.pf_cli.proofs.Sittings.{desk_not_held}
 use Rattle.pf_cli.proofs.desk.hold_alone.Goals as goal
 

@@ -1,5 +1,5 @@
 use Rattle.std.proofs.Common.{◌≡◌, ◌&&◌, not}
-use Rattle.pf_words.specs.Asked.{desk_named}
+use Rattle.pf_arguments.specs.Asked.{desk_named}
 use Rattle.pf_cli.proofs.Journals.{asked_there, holds_with, unasked_elsewhere}
 use Rattle.pf_cli.proofs.desk.hold_desk.Goals as goal
 use Rattle.pf_cli.proofs.desk.hold_desk.Goals.{then-is_terminal, else-is_terminal}

@@ -1,5 +1,5 @@
 use Rattle.std.proofs.Common.{◌≡◌, ℕ, List, Err, rules, subst}
-use Rattle.pf_fault.specs.declared.fault.Fault.TheVariants as why
+use Rattle.pf_vocabulary.specs.declared.fault.fault.Fault.TheVariants as why
 use Rattle.pf_cli.specs.Noted.{IsTold, notes_in}
 use Rattle.pf_cli.specs.Status.{Tells}
 use Rattle.pf_cli.proofs.Telling.{told_unwritten}

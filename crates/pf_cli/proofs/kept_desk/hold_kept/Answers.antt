@@ -1,5 +1,5 @@
 use Rattle.std.proofs.Common.{inl, refl}
-use Rattle.pf_words.specs.Asked.{desk_named}
+use Rattle.pf_arguments.specs.Asked.{desk_named}
 use Rattle.pf_cli.proofs.Journals.{kept_not_held}
 use Rattle.pf_cli.proofs.kept_desk.hold_kept.Goals as goal
 

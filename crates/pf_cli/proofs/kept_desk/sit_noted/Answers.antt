@@ -1,5 +1,5 @@
 use Rattle.std.proofs.Common.{◌≡◌, ◌∙◌, ap}
-use Rattle.pf_journaled.specs.Session.{SessionState}
+use Rattle.pf_session.specs.Session.{SessionState}
 use Rattle.pf_cli.proofs.Journals.{has_sat_on, still_prompts}
 use Rattle.pf_cli.proofs.kept_desk.sit_noted.Goals as goal
 use Rattle.pf_cli.proofs.kept_desk.sit_noted.Goals.{then-prompts, else-prompts}

@@ -1,7 +1,7 @@
 use Rattle.std.proofs.Common.{ap, is_some, refl, Option}
 use Rattle.std.specs.Prelude.{String}
 use Rattle.std.specs.declared.alloc.Global.{Global}
-use Rattle.pf_words.specs.Asked.{desk_named, name_of}
+use Rattle.pf_arguments.specs.Asked.{desk_named, name_of}
 use Rattle.pf_cli.specs.Desks.{manner_of}
 use Rattle.pf_cli.proofs.Journals.{unread_script}
 use Rattle.pf_cli.proofs.kept_made.make_on.Goals as goal

@@ -1,8 +1,8 @@
 use Rattle.std.proofs.Common.{string_bytes, subst}
 use Rattle.std.specs.Option.{option_map}
-use Rattle.pf_journaled.specs.Journaled.{Begins, DoesNotBegin}
-use Rattle.pf_journaled.specs.Kept.{found_bytes, found_disk}
-use Rattle.pf_words.specs.Asked.{desk_named}
+use Rattle.pf_journal_session.specs.Journaled.{Begins, DoesNotBegin}
+use Rattle.pf_journal.specs.Kept.{found_bytes, found_disk}
+use Rattle.pf_arguments.specs.Asked.{desk_named}
 use Rattle.pf_cli.specs.Desks.{manner_of}
 use Rattle.pf_cli.proofs.Journals.{begins_noted}
 use Rattle.pf_cli.proofs.kept_made.make_with.Goals as goal

@@ -1,4 +1,4 @@
-use Rattle.pf_words.specs.Asked.{desk_named}
+use Rattle.pf_arguments.specs.Asked.{desk_named}
 use Rattle.pf_cli.specs.Desks.{manner_of}
 use Rattle.pf_cli.proofs.Journals.{untold_sizes}
 use Rattle.pf_cli.proofs.kept_made.with_note.Goals as goal

@@ -1,5 +1,5 @@
 use Rattle.std.proofs.Common.{List, ℕ, map, refl, subst, sym}
-use Rattle.pf_words.specs.Asked.{IsShownTo}
+use Rattle.pf_arguments.specs.Asked.{IsShownTo}
 use Rattle.pf_cli.proofs.WordsAnswered.{desk_answers, desk_reads, no_memory_at_any_desk, refusal_answers, text_answers}
 use Rattle.pf_cli.proofs.program.main_words.Goals as goal
 

@@ -1,4 +1,4 @@
-use Rattle.pf_words.specs.Asked.{names_of}
+use Rattle.pf_arguments.specs.Asked.{names_of}
 use Rattle.pf_cli.proofs.Comparing.{first_ends, first_stops}
 use Rattle.pf_cli.proofs.two_scripts.compare_scripts.Goals as goal
 

@@ -1,6 +1,6 @@
 use Rattle.std.proofs.Common.{None, subst, sym}
-use Rattle.pf_names.specs.declared.titles.Titles.{Titles}
-use Rattle.pf_plain.specs.Plain.{plain}
+use Rattle.pf_vocabulary.specs.declared.names.titles.Titles.{Titles}
+use Rattle.pf_plain_script.specs.Plain.{plain}
 use Rattle.pf_cli.specs.Ends.{IsTextBy}
 use Rattle.pf_cli.proofs.RunNotes.{own_answered, own_text, plan_text}
 use Rattle.pf_cli.proofs.versions.do_version.Goals as goal

@@ -1,6 +1,6 @@
 use Rattle.std.proofs.Common.{◌∙◌, ◌++◌, codes, ap}
 use Rattle.std.specs.Fmt.{decimal}
-use Rattle.pf_facts.proofs.Options.{appended}
+use Rattle.pf_lemmas.proofs.Options.{appended}
 use Rattle.pf_code.proofs.Parts.{two_words}
 use Rattle.pf_code.proofs.lines.push_constants.Goals as goal
 

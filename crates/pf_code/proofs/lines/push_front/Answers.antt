@@ -1,6 +1,6 @@
 use Rattle.std.proofs.Common.{◌∙◌, ◌++◌, codes, ap, ap₂}
 use Rattle.std.specs.List.{flat_map}
-use Rattle.pf_facts.proofs.Options.{appended}
+use Rattle.pf_lemmas.proofs.Options.{appended}
 use Rattle.pf_code.specs.Array.{name_line, title_text}
 use Rattle.pf_code.proofs.Parts.{three_texts}
 use Rattle.pf_code.proofs.lines.push_front.Goals as goal

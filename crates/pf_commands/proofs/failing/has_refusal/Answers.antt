@@ -2,8 +2,8 @@ use Rattle.std.proofs.Common.{◌≡◌, ◌+◌, ◌∙◌, true, false, sym, a
 use Rattle.std.specs.Prelude.{◌||◌}
 use Rattle.pf_desk.specs.Views.{lent_entry}
 use Rattle.pf_report.specs.Replies.{is_refusal}
-use Rattle.pf_course.proofs.Batches.{next_entry}
-use Rattle.pf_course.proofs.Courses.{has_refusal}
+use Rattle.pf_replies.proofs.Batches.{next_entry}
+use Rattle.pf_replies.proofs.Courses.{has_refusal}
 use Rattle.pf_commands.proofs.failing.has_refusal.Goals as goal
 
 pub loop-k-preserved : goal.loop-k-preserved

@@ -1,5 +1,5 @@
 use Rattle.std.proofs.Common.{◌≡◌, drop}
-use Rattle.pf_course.proofs.Courses.{has_refusal}
+use Rattle.pf_replies.proofs.Courses.{has_refusal}
 use Rattle.pf_commands.proofs.failing.has_refusal.Given as goal
 
 -- what was refused is among the entries left

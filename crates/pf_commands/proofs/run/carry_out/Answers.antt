@@ -1,11 +1,11 @@
 use Rattle.std.specs.Prelude.{option_map}
 use Rattle.std.proofs.Common.{◌≡◌, Some, ap, subst, sym, ◌∙◌}
 use Rattle.std.proofs.lemmas.Result.{IfOk-weaker}
-use Rattle.pf_fault.specs.Faults.{CountsWrites}
-use Rattle.pf_recount.specs.Carried.{IsOf}
+use Rattle.pf_vocabulary.specs.Fault.Faults.{CountsWrites}
+use Rattle.pf_script_run.specs.Carried.{IsOf}
 use Rattle.pf_script.specs.Told.{told}
 use Rattle.pf_commands.specs.Ended.{script_course}
-use Rattle.pf_course.specs.Course.{course_at}
+use Rattle.pf_replies.specs.Course.{course_at}
 use Rattle.pf_commands.specs.Refusals.{refusals_for}
 use Rattle.pf_commands.proofs.Answering.{course_there, reported, stopped_carrying}
 use Rattle.pf_commands.proofs.run.carry_out.Goals as goal

@@ -3,7 +3,7 @@ use Rattle.std.proofs.lemmas.Result.{err_from_is_err_and}
 use Rattle.pf_desk.specs.Desk.{Shown}
 use Rattle.pf_script.specs.Told.{told}
 use Rattle.pf_commands.proofs.Answering.{carried, counts_stopped, ends_counts, ends_past, opens_counts, opens_past, past_stopped, replies_stopped, unopened}
-use Rattle.pf_course.proofs.Asked.{carried_out}
+use Rattle.pf_replies.proofs.Asked.{carried_out}
 use Rattle.pf_commands.proofs.run.write_replies.Goals as goal
 
 pub returns-in_err-replies-clause-replies : goal.returns-in_err-replies-clause-replies

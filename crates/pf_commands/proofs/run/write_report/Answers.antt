@@ -2,7 +2,7 @@ use Rattle.std.proofs.Common.{ap, sym, ◌∙◌}
 use Rattle.std.proofs.lemmas.Result.{err_from_is_err_and}
 use Rattle.std.specs.Prelude.{option_map}
 use Rattle.pf_stream.proofs.Sending.{none_written}
-use Rattle.pf_options.specs.Formats.{range_fault}
+use Rattle.pf_vocabulary.specs.Options.Formats.{range_fault}
 use Rattle.pf_formats.specs.Report.{report_text}
 use Rattle.pf_commands.specs.Refusals.{refusals_for}
 use Rattle.pf_commands.proofs.Answering.{report_stopped}

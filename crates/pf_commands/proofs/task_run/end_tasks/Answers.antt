@@ -1,4 +1,4 @@
-use Rattle.pf_fault.specs.declared.ending.Ending.{Ending}
+use Rattle.pf_vocabulary.specs.declared.fault.ending.Ending.{Ending}
 use Rattle.pf_commands.proofs.Answering.{counts_as}
 use Rattle.pf_commands.proofs.task_run.end_tasks.Goals as goal
 

@@ -1,8 +1,8 @@
 use Rattle.std.proofs.Common.{ap, sym, ◌∙◌, refl}
 use Rattle.std.proofs.lemmas.Result.{err_from_is_err_and}
 use Rattle.pf_stream.proofs.Sending.{none_written}
-use Rattle.pf_options.specs.Formats.{range_fault}
-use Rattle.pf_course.specs.Course.{course_at}
+use Rattle.pf_vocabulary.specs.Options.Formats.{range_fault}
+use Rattle.pf_replies.specs.Course.{course_at}
 use Rattle.pf_commands.proofs.Listed.{tasks_outside, tasks_stopped, tasks_written}
 use Rattle.pf_commands.proofs.task_run.write_tasks.Goals as goal
 

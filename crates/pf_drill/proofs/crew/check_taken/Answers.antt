@@ -1,6 +1,6 @@
 use Rattle.std.proofs.Common.{below_more, refl, subst, ℕ, arith}
 use Rattle.std.specs.Prelude.{slice_index_or}
-use Rattle.pf_facts.proofs.Lists.{at_any}
+use Rattle.pf_lemmas.proofs.Lists.{at_any}
 use Rattle.pf_board.specs.declared.quantum.Quantum.{Quantum}
 use Rattle.pf_drill.specs.Gates.{HasTaken}
 use Rattle.pf_drill.proofs.crew.check_taken.Goals as goal

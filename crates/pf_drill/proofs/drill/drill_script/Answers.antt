@@ -2,7 +2,7 @@ use Rattle.std.proofs.Common.{◌≡◌, ◌+◌, ap, ap₂, ◌∙◌, sym}
 use Rattle.std.proofs.lemmas.Result.{err_from_is_err_and}
 use Rattle.pf_scenario.specs.System.{System}
 use Rattle.pf_board.specs.Passes.{new_passes}
-use Rattle.pf_carrying.specs.Asked.{lines_asked}
+use Rattle.pf_script_desk.specs.Asked.{lines_asked}
 use Rattle.pf_drill.specs.Gates.{SomeArrived}
 use Rattle.pf_drill.proofs.Scripts.{drills_same, opening_asks, opening_stops, stops_same}
 use Rattle.pf_drill.proofs.drill.drill_script.Goals as goal

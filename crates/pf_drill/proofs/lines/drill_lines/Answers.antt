@@ -1,4 +1,4 @@
-use Rattle.pf_carrying.specs.Asked.{lines_asked}
+use Rattle.pf_script_desk.specs.Asked.{lines_asked}
 use Rattle.std.proofs.Common.{◌∙◌}
 use Rattle.pf_drill.specs.Gates.{SomeArrived}
 use Rattle.pf_drill.specs.Rounds.{commands_given}

@@ -1,5 +1,5 @@
 use Rattle.std.proofs.Common.{◌≡◌, ◌++◌, length}
-use Rattle.pf_carrying.specs.Asked.{commands_in}
+use Rattle.pf_script_desk.specs.Asked.{commands_in}
 use Rattle.pf_drill.specs.Rounds.{IsInStep, commands_given}
 use Rattle.pf_drill.proofs.lines.take_lines.Given as goal
 

@@ -1,5 +1,5 @@
 use Rattle.std.proofs.Common.{◌≡◌}
-use Rattle.pf_table.specs.Grown.{size_of}
+use Rattle.pf_collections.specs.Table.Grown.{size_of}
 use Rattle.pf_engine.specs.Places.{IsListedTo}
 use Rattle.pf_engine.proofs.roster.renumber.Given as goal
 

@@ -1,8 +1,8 @@
 use Rattle.std.proofs.Common.{◌≡◌, filter, take}
 use Rattle.std.specs.List.{flat_map}
 use Rattle.pf_run.specs.Computed.{run_of}
-use Rattle.pf_tasks.specs.Listed.{is_listed}
-use Rattle.pf_name_column.specs.Column.{with_name}
+use Rattle.pf_vocabulary.specs.Tasks.Listed.{is_listed}
+use Rattle.pf_vocabulary.specs.NameColumn.Column.{with_name}
 use Rattle.pf_jobs.specs.Jobs.{named_behind_job, records_of_task}
 use Rattle.pf_jobs.proofs.jobs.job_sheets.Given as goal
 

@@ -1,5 +1,5 @@
 use Rattle.std.proofs.Common.{sym, ◌∙◌}
-use Rattle.pf_facts.proofs.Finding.{found_all}
+use Rattle.pf_lemmas.proofs.Finding.{found_all}
 use Rattle.pf_scenario.specs.Edit.{IsEvent}
 use Rattle.pf_scenario.specs.Event.{is_join_of}
 use Rattle.pf_notes.proofs.inside.brought_by.Goals as goal

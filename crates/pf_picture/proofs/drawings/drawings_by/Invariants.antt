@@ -1,5 +1,5 @@
 use Rattle.std.proofs.Common.{◌≡◌, map}
-use Rattle.pf_table.specs.Lists.{noted_of}
+use Rattle.pf_collections.specs.Table.Lists.{noted_of}
 use Rattle.pf_picture.specs.Denials.{drawing_with}
 use Rattle.pf_picture.proofs.drawings.drawings_by.Given as goal
 

@@ -1,5 +1,5 @@
 use Rattle.std.proofs.Common.{◌≡◌, ◌-◌, Some, [], length, ap, sym, ◌∙◌, arith}
-use Rattle.pf_facts.proofs.Lists.{none_long}
+use Rattle.pf_lemmas.proofs.Lists.{none_long}
 use Rattle.pf_place.specs.Blocks.{all_rows_of}
 use Rattle.pf_place.specs.Lent.{lent_row}
 use Rattle.pf_place.specs.RunRows.{last_row}

@@ -1,5 +1,5 @@
 use Rattle.std.proofs.Common.{◌+◌, ◌<◌, ◌==◌, ◌∙◌, ℕ, cond, length, ap, arith}
-use Rattle.pf_table.specs.Grown.{Grown, value_of}
+use Rattle.pf_collections.specs.Table.Grown.{Grown, value_of}
 use Rattle.pf_run_notes.proofs.Lateness.{value_set, grown_long}
 use Rattle.pf_run_notes.proofs.late.give.Goals as goal
 

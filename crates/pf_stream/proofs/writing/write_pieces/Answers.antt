@@ -1,5 +1,5 @@
 use Rattle.std.proofs.Common.{◌++◌, ◌∙◌, ap, sym}
-use Rattle.pf_facts.proofs.Options.{anyway}
+use Rattle.pf_lemmas.proofs.Options.{anyway}
 use Rattle.pf_stream.proofs.Sending.{piece_stopped, piece_written}
 use Rattle.pf_stream.proofs.writing.write_pieces.Goals as goal
 

@@ -1,6 +1,6 @@
 use Rattle.std.proofs.Common.{◌≡◌, not, filter, take}
 use Rattle.pf_run.specs.Inside.{has_left}
-use Rattle.pf_table.specs.Lists.{noted_of}
+use Rattle.pf_collections.specs.Table.Lists.{noted_of}
 use Rattle.pf_tally.proofs.inside.staying.Given as goal
 
 abbrev pub invariant-loop-task : goal.invariant-loop-task

@@ -1,6 +1,6 @@
 use Rattle.std.proofs.Common.{◌≡◌, ◌++◌, [], ◌∷◌, cond, ◌∙◌, sym, ap, arith, rules}
 use Rattle.std.specs.Prelude.{◌==◌}
-use Rattle.pf_table.specs.Lists.{noted_of}
+use Rattle.pf_collections.specs.Table.Lists.{noted_of}
 use Rattle.pf_tally.proofs.Seats.{idle_place, pick_place}
 use Rattle.pf_tally.proofs.processors.note_places.Goals as goal
 use Rattle.pf_tally.proofs.processors.note_places.Goals.{in-Some+in_ok-note, in_default}

@@ -1,6 +1,6 @@
 use Rattle.std.proofs.Common.{ℕ, ◌≡◌, ◌++◌, take}
 use Rattle.pf_place.specs.Lent.{lent_row}
-use Rattle.pf_table.specs.Lists.{noted_of}
+use Rattle.pf_collections.specs.Table.Lists.{noted_of}
 use Rattle.pf_tally.specs.Figures.{is_of}
 use Rattle.pf_tally.specs.Quanta.{places_from}
 use Rattle.pf_tally.proofs.processors.note_places.Given as goal

@@ -1,5 +1,5 @@
 use Rattle.std.proofs.Common.{ℕ, ◌≡◌, take}
-use Rattle.pf_table.specs.Lists.{noted_of}
+use Rattle.pf_collections.specs.Table.Lists.{noted_of}
 use Rattle.pf_tally.specs.Figures.{processors_in}
 use Rattle.pf_tally.proofs.processors.processors_by_task.Given as goal
 

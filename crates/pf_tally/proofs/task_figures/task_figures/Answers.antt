@@ -1,7 +1,7 @@
 use Rattle.std.proofs.Common.{◌≡◌, ◌∙◌, ap, ap₂, arith, filter_map}
 use Rattle.pf_scenario.specs.System.{System}
 use Rattle.pf_run.specs.Inside.{join_of}
-use Rattle.pf_table.specs.Lists.{noted_of}
+use Rattle.pf_collections.specs.Table.Lists.{noted_of}
 use Rattle.pf_tally.specs.Lags.{by_task}
 use Rattle.pf_tally.specs.Quanta.{slots_in}
 use Rattle.pf_tally.proofs.Figured.{can_figure, figures_step, figures_all}

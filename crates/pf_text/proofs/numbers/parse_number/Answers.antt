@@ -3,7 +3,7 @@ use Rattle.std.proofs.lemmas.List.{take_all}
 use Rattle.std.proofs.lemmas.Int.Digits.{digits_value_more}
 use Rattle.std.proofs.lemmas.Grind.{pow_more}
 use Rattle.std.specs.Str.Parse.{digits_value}
-use Rattle.pf_facts.proofs.Digits.{digits-more, digits-none, ten-pow, digit-is}
+use Rattle.pf_lemmas.proofs.Digits.{digits-more, digits-none, ten-pow, digit-is}
 use Rattle.pf_text.proofs.Digits.{number_of-digits, number_of-none}
 use Rattle.pf_text.proofs.numbers.parse_number.Goals as goal
 

@@ -1,5 +1,5 @@
 use Rattle.std.proofs.Common.{◌∙◌, ◌-◌, ◌++◌, drop, take, length, refl, sym, arith}
-use Rattle.pf_facts.proofs.Options.{appended}
+use Rattle.pf_lemmas.proofs.Options.{appended}
 use Rattle.pf_trace.proofs.Filling.{byte_passed, form_passed, hole_passed}
 use Rattle.pf_trace.proofs.form.push_filled.Goals as goal
 use Rattle.pf_trace.proofs.form.push_filled.Goals.{then-is_hole+in_ok-extend_from_slice+in_ok-push_hole, else-is_hole}

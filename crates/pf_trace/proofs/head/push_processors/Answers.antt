@@ -1,4 +1,4 @@
-use Rattle.pf_facts.proofs.Ranges.{number_next}
+use Rattle.pf_lemmas.proofs.Ranges.{number_next}
 use Rattle.pf_trace.specs.Trace.{processor_name}
 use Rattle.pf_trace.proofs.head.push_processors.Goals as goal
 

@@ -1,5 +1,5 @@
 use Rattle.std.proofs.Common.{◌∙◌, ◌++◌, ap}
-use Rattle.pf_facts.proofs.Ranges.{number_next}
+use Rattle.pf_lemmas.proofs.Ranges.{number_next}
 use Rattle.pf_place.specs.Lent.{lent_row}
 use Rattle.pf_place.specs.Occupancy.{sitter}
 use Rattle.pf_trace.specs.Runs.{sitter_lines, trace_at}

@@ -1,6 +1,6 @@
 use Rattle.std.proofs.Common.{◌∙◌, ◌++◌, [], cond, sym, ap}
 use Rattle.std.specs.Prelude.{◌==◌}
-use Rattle.pf_table.specs.Lists.{noted_of}
+use Rattle.pf_collections.specs.Table.Lists.{noted_of}
 use Rattle.pf_trace.proofs.Listing.{nothing_told, one_told, then_ok}
 use Rattle.pf_trace.proofs.trace.note_task.Goals as goal
 

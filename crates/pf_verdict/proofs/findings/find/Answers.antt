@@ -1,8 +1,8 @@
 use Rattle.std.proofs.Common.{◌≡◌, ◌∙◌, ◌*◌, ◌≤◌, ap, ap₂, sym, subst, length, sum_by, List, All}
 use Rattle.pf_run.specs.Computed.{run_of}
 use Rattle.pf_tally.specs.declared.figures.Figures.{Figures}
-use Rattle.pf_promise.specs.FitLaws.{IsFitOf}
-use Rattle.pf_promise.proofs.FitLaws.{fit_of_run, overload_bounds_tardiness, overload_bounds_lateness}
+use Rattle.pf_laws.specs.Promise.FitLaws.{IsFitOf}
+use Rattle.pf_laws.proofs.PromiseLemmas.FitLaws.{fit_of_run, overload_bounds_tardiness, overload_bounds_lateness}
 use Rattle.pf_verdict.specs.Carries.{carries_cap}
 use Rattle.pf_verdict.specs.Findings.{Found, grounds_of}
 use Rattle.pf_verdict.specs.Strain.{strain_of}

@@ -2,8 +2,8 @@ use Rattle.std.proofs.Common.{◌≡◌, filter, take}
 use Rattle.std.specs.List.{flat_map}
 use Rattle.pf_run.specs.Computed.{run_of}
 use Rattle.pf_tally.specs.Figures.{processors_in}
-use Rattle.pf_tasks.specs.Listed.{is_listed}
-use Rattle.pf_name_column.specs.Column.{with_name}
+use Rattle.pf_vocabulary.specs.Tasks.Listed.{is_listed}
+use Rattle.pf_vocabulary.specs.NameColumn.Column.{with_name}
 use Rattle.pf_windows.specs.Told.{named_behind_sub}
 use Rattle.pf_windows.specs.Windows.{records_of_task}
 use Rattle.pf_windows.proofs.windows.window_sheets.Given as goal

@@ -1,6 +1,6 @@
 use Rattle.std.proofs.Common.{ℕ, ◌-◌, refl, sym, ap, ◌∙◌, subst, arith, length}
 use Rattle.pf_calendar.specs.Queues.{Queues}
-use Rattle.pf_table.specs.Grown.{Grown}
+use Rattle.pf_collections.specs.Table.Grown.{Grown}
 use Rattle.pf_heap.specs.Keys.{Heaps}
 use Rattle.pf_calendar.specs.Invariant.{waiting_in, NotesSlots}
 use Rattle.pf_calendar.proofs.Notes.{notes_same}

@@ -12,7 +12,7 @@ use Rattle.pf_calendar.proofs.Naming.{no_entry}
 use Rattle.pf_calendar.proofs.Arranged.{entry_listed}
 use Rattle.pf_calendar.proofs.Whole.{none_empty, IsCalendarAfter, has_unused, slots_rise, slots_apart, some_free, absent_from, with_room, count_is, held_seen}
 use Rattle.pf_calendar.proofs.Putting.{opened, opened_within, opened_size, put_done}
-use Rattle.pf_table.specs.Grown.{with_value}
+use Rattle.pf_collections.specs.Table.Grown.{with_value}
 use Rattle.pf_calendar.proofs.Notes.{notes_same, notes_put}
 use Rattle.pf_calendar.proofs.calendar.Calendar.put.Goals.{After-index-entry, After-index_mut}
 use Rattle.pf_calendar.proofs.calendar.Calendar.put.Goals as goal

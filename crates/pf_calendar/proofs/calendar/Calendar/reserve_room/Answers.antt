@@ -3,7 +3,7 @@ use Rattle.std.specs.Prelude.{replicate}
 use Rattle.std.specs.FinSet as set
 use Rattle.std.specs.Vec.{vec_capacity}
 use Rattle.std.proofs.lemmas.List.{append-nil}
-use Rattle.pf_facts.proofs.Options.{anyway}
+use Rattle.pf_lemmas.proofs.Options.{anyway}
 use Rattle.pf_calendar.specs.Queues.{Queues, key_count}
 use Rattle.pf_calendar.specs.Invariant.{waiting_in, IsCalendar, NotesSlots}
 use Rattle.pf_calendar.specs.Steps.{AddsHeaps}

@@ -1,7 +1,7 @@
 use Rattle.std.proofs.Common.{ℕ, ◌+◌, ◌-◌, max, length, ap, ◌∙◌, arith, rules, replicate}
 use Rattle.pf_calendar.specs.Queues.{Queues}
 use Rattle.std.proofs.lemmas.List.{length-append, length-replicate}
-use Rattle.pf_table.specs.Grown.{Grown}
+use Rattle.pf_collections.specs.Table.Grown.{Grown}
 use Rattle.pf_heap.specs.Keys.{Heaps}
 use Rattle.pf_calendar.proofs.Whole.{tasks_seen}
 use Rattle.pf_calendar.proofs.Notes.{notes_grown}

@@ -7,7 +7,7 @@ use Rattle.std.proofs.lemmas.List.{get_or_default}
 use Rattle.pf_order.specs.Counts.{Counts, Compares}
 use Rattle.pf_order.proofs.Comparing.{compares_none, compares_within}
 use Rattle.pf_heap.specs.Keys.{Heaps, list_of, other_keys, HasNone}
-use Rattle.pf_table.specs.Grown.{value_of}
+use Rattle.pf_collections.specs.Table.Grown.{value_of}
 use Rattle.pf_heap.specs.Digits.{digits}
 use Rattle.pf_heap.proofs.Digits.{digits-mono}
 use Rattle.pf_calendar.specs.Invariant.{waiting_in}

@@ -1,6 +1,6 @@
 use Rattle.std.proofs.Common.{◌≡◌, ◌∙◌, ◌+◌, ◌++◌, ap, subst, sym, arith}
 use Rattle.std.specs.Prelude.{OnOk}
-use Rattle.pf_name_column.specs.Column.{name_fields}
+use Rattle.pf_vocabulary.specs.NameColumn.Column.{name_fields}
 use Rattle.pf_text.specs.Page.{with_record}
 use Rattle.pf_jobs.specs.Ran.{NamedRan}
 use Rattle.pf_jobs.specs.Jobs.{is_told, job_by, job_count, job_record}

@@ -1,5 +1,5 @@
 use Rattle.std.proofs.Common.{◌≡◌, filter, not}
-use Rattle.pf_tasks.specs.Listed.{is_listed}
+use Rattle.pf_vocabulary.specs.Tasks.Listed.{is_listed}
 use Rattle.pf_picture.proofs.task_drawings.TaskDrawings.of.Given as goal
 
 abbrev pub invariant-loop-drawing : goal.invariant-loop-drawing

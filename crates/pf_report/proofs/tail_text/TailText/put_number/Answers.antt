@@ -1,6 +1,6 @@
 use Rattle.std.proofs.Common.{length, length-append, ap, arith}
 use Rattle.std.specs.Fmt.{decimal}
-use Rattle.pf_facts.proofs.Digits.{twenty_digits}
+use Rattle.pf_lemmas.proofs.Digits.{twenty_digits}
 use Rattle.pf_report.proofs.tail_text.TailText.put_number.Goals as goal
 
 pub put_digits-requires : goal.put_digits-requires

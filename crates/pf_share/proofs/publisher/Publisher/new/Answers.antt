@@ -1,6 +1,6 @@
 use Rattle.std.proofs.Common.{drop, sym, ap}
 use Rattle.left_right.specs.Sides.{view}
-use Rattle.pf_facts.proofs.Prefixes.{prefix_self}
+use Rattle.pf_lemmas.proofs.Prefixes.{prefix_self}
 use Rattle.pf_share.proofs.Growing.{begins, shows}
 use Rattle.pf_share.proofs.Publishing.{shown_none, longer}
 use Rattle.pf_share.proofs.publisher.Publisher.new.Goals as goal

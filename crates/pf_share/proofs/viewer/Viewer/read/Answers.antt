@@ -1,6 +1,6 @@
 use Rattle.std.proofs.Common.{◌++◌, ◌∷◌, [], length, ap, ◌∙◌, refl, inl, inr}
 use Rattle.left_right.specs.Sides.{view}
-use Rattle.pf_facts.proofs.Prefixes.{prefix_self}
+use Rattle.pf_lemmas.proofs.Prefixes.{prefix_self}
 use Rattle.pf_share.proofs.Growing.{enters, prefix_into, viewed}
 use Rattle.pf_share.proofs.viewer.Viewer.read.Goals as goal
 

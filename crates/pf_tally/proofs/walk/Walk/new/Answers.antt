@@ -1,6 +1,6 @@
 use Rattle.std.proofs.Common.{◌≡◌, ◌∙◌, arith, sym, ap, ap₂}
 use Rattle.std.proofs.Common.{Some}
-use Rattle.pf_table.specs.Grown.{with_value}
+use Rattle.pf_collections.specs.Table.Grown.{with_value}
 use Rattle.pf_tally.proofs.Walks.{task_entered, new_progress, room_made}
 use Rattle.pf_tally.proofs.walk.Walk.new.Goals as goal
 

@@ -1,7 +1,7 @@
 use Rattle.std.proofs.Common.{◌≡◌, ◌+◌, ◌-◌, ◌≤◌, length, arith, append-nil, append_assoc}
 use Rattle.std.specs.Fmt.{decimal}
 use Rattle.std.proofs.lemmas.List.{drop_all, drop-set, drop-set-lt, length-set}
-use Rattle.pf_facts.proofs.Digits.{twenty_digits}
+use Rattle.pf_lemmas.proofs.Digits.{twenty_digits}
 use Rattle.pf_text.proofs.pair_text.PairText.set.Goals as goal
 
 pub write_digits-slash-requires : goal.write_digits-slash-requires

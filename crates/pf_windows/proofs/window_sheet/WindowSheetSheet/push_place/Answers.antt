@@ -1,6 +1,6 @@
 use Rattle.std.proofs.Common.{◌≡◌, ◌∙◌, ◌+◌, ◌++◌, ap, subst, sym}
 use Rattle.std.specs.Prelude.{OnOk}
-use Rattle.pf_name_column.specs.Column.{name_fields}
+use Rattle.pf_vocabulary.specs.NameColumn.Column.{name_fields}
 use Rattle.pf_run.specs.Inside.{Joined}
 use Rattle.pf_text.specs.Page.{with_record}
 use Rattle.pf_windows.specs.Told.{NamedTold, is_shown, told_window}

@@ -1,5 +1,0 @@
-use Rattle.pf_timeline.specs.Timeline.{StandsFor}
-use Rattle.base_tests.proofs.timeline.four_slots.Given as goal
-
-abbrev pub invariant-loop : goal.invariant-loop
-invariant-loop g l = StandsFor l.scenario l.timeline.now l.timeline

@@ -1,0 +1,6 @@
+mod Growing
+mod Pairs
+mod Reading
+pub mod Unasked
+mod Worked
+pub mod TipsLemmas

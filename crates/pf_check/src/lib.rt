@@ -1,8 +1,0 @@
-//! Scripts checked without carrying them out. The one contract of this crate: `write_check` writes a line for each record
-//! that the format does not allow, saying where it begins and why it is none, and then how many records and faults there
-//! are.
-#![tactic(auto)]
-
-pub mod checker;
-pub mod laws;
-pub mod report;

@@ -1,4 +1,0 @@
-use Rattle.pf_columns.proofs.decimals.+push_last_digits.Given as goal
-
-abbrev pub decreases-push_last_digits : goal.decreases-push_last_digits
-decreases-push_last_digits l = l.places

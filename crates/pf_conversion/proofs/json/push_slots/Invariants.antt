@@ -1,7 +1,0 @@
-use Rattle.std.proofs.Common.{◌≡◌, ◌++◌, drop}
-use Rattle.pf_conversion.specs.Json.{slots_item}
-use Rattle.pf_conversion.specs.Script.{numbered}
-use Rattle.pf_conversion.proofs.json.push_slots.Given as goal
-
-abbrev pub invariant-loop-place : goal.invariant-loop-place
-invariant-loop-place l = l.text.items ++ numbered (slots_item l.quantum) l.place (drop l.place l.tasks) ≡ l.fn.text.items ++ numbered (slots_item l.quantum) 0 l.tasks

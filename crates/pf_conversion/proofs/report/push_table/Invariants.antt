@@ -1,8 +1,0 @@
-use Rattle.std.proofs.Common.{◌≡◌, ◌+◌, ◌++◌, ◌∷◌, drop}
-use Rattle.pf_conversion.specs.Report.{headings, report_rows}
-use Rattle.pf_conversion.proofs.report.push_table.Given as goal
-
-abbrev pub invariant-loop-place : goal.invariant-loop-place
-invariant-loop-place l =
-    l.rows.items ++ report_rows l.unit l.quantum (l.place + 1) (drop l.place l.tasks) (drop l.place l.slots)
-    ≡ headings ∷ report_rows l.unit l.quantum 1 l.tasks l.slots

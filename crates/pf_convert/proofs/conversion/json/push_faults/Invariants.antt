@@ -1,0 +1,7 @@
+use Rattle.std.proofs.Common.{◌≡◌, ◌++◌, drop}
+use Rattle.pf_convert.specs.Conversion.Json.{fault_item}
+use Rattle.pf_convert.specs.Conversion.Script.{numbered}
+use Rattle.pf_convert.proofs.conversion.json.push_faults.Given as goal
+
+abbrev pub invariant-loop-place : goal.invariant-loop-place
+invariant-loop-place l = l.text.items ++ numbered (fault_item) l.place (drop l.place l.faults) ≡ l.fn.text.items ++ numbered (fault_item) 0 l.faults

@@ -1,0 +1,11 @@
+pub mod Answers
+pub mod Conversions
+pub mod Json
+pub mod Laws
+pub mod Planned
+pub mod Report
+pub mod Script
+pub mod Series
+pub mod Slots
+pub mod Summary
+pub mod Table

@@ -1,0 +1,312 @@
+ghost use Rattle.std.specs.Prelude.{◌≡◌, ◌++◌, All, OnOk};
+ghost use Rattle.pf_convert.specs.Slots.{IsSlotted};
+ghost use Rattle.pf_convert.specs.Conversion.Json.{comma, fault_item, fits_word, json_head, json_text, json_tail, no_plan_json, option_json, plan_head, plan_json, quantum_item, slots_item, task_item, truth};
+ghost use Rattle.pf_convert.specs.Conversion.Planned.{HoldsPlan, HoldsTasks};
+ghost use Rattle.pf_convert.specs.Conversion.Script.{numbered};
+ghost use Rattle.pf_convert.specs.Conversion.Series.{HoldAll};
+
+use crate::conversion::planned::Planned;
+use crate::conversion::table::Series;
+use crate::list::lines::Lines;
+use crate::list::listed::Listed;
+use crate::list::parts::{Part, push_parts};
+use crate::plan::Plan;
+use crate::slotted::Slotted;
+use pf_scenario::settings::MOST_PROCESSORS;
+use std::alloc::AllocError;
+
+/// Adds what several quanta give these tasks, of which a switch takes so much, as an object of JSON on one line. Its numbers
+/// may have 128 bits, and no text in it needs escaping.
+///
+/// # Errors
+///
+/// Where memory is refused: a front of it was added.
+#[tactic(auto, unfolding(crate::specs::Conversion::Json::json_text))]
+pub fn push_json(
+    text: &mut Vec<u8>,
+    series: Series,
+    switch: u64,
+    tasks: &[Listed],
+    all: &[Planned],
+) -> Result<(), AllocError>
+    requires { HoldAll all.now }
+    ensures { OnOk result (text.new.items ≡ text.old.items ++ json_text series switch tasks.now all.now) }
+{
+    push_head(text, series)?;
+    push_quanta(text, series.processors, all)?;
+    push_parts(
+        text,
+        &[
+            Part::Words("],\"switch\":"),
+            Part::Number(switch),
+            Part::Words(",\"tasks\":["),
+        ],
+    )?;
+    push_tasks(text, tasks)?;
+    push_tail(text, series)
+}
+
+/// Adds what comes before the quanta.
+fn push_head(text: &mut Vec<u8>, series: Series) -> Result<(), AllocError>
+    ensures { OnOk result (text.new.items ≡ text.old.items ++ json_head series) }
+{
+    push_parts(text, &[Part::Words("{\"best\":")])?;
+    push_option(text, series.best.map(|place| place as u64))?;
+    push_parts(text, &[Part::Words(",\"processors\":")])?;
+    push_option(text, series.processors)?;
+    push_parts(text, &[Part::Words(",\"quanta\":[")])
+}
+
+/// Adds what comes after the tasks.
+fn push_tail(text: &mut Vec<u8>, series: Series) -> Result<(), AllocError>
+    ensures { OnOk result (text.new.items ≡ text.old.items ++ json_tail series) }
+{
+    push_parts(
+        text,
+        &[
+            Part::Words("],\"unit\":\""),
+            Part::Words(series.unit.word()),
+            Part::Words("\",\"work\":"),
+            Part::Wide(series.work),
+            Part::Words("}\n"),
+        ],
+    )
+}
+
+/// Adds a number, or null where there is none.
+fn push_option(text: &mut Vec<u8>, number: Option<u64>) -> Result<(), AllocError>
+    ensures { OnOk result (text.new.items ≡ text.old.items ++ option_json number) }
+{
+    match number {
+        Some(number) => push_parts(text, &[Part::Number(number)]),
+        None => push_parts(text, &[Part::Words("null")]),
+    }
+}
+
+/// Adds the quanta.
+fn push_quanta(
+    text: &mut Vec<u8>,
+    processors: Option<u64>,
+    all: &[Planned],
+) -> Result<(), AllocError>
+    requires { HoldAll all.now }
+    ensures { OnOk result (text.new.items ≡ text.old.items ++ numbered (quantum_item processors) 0 all.now) }
+{
+    for (place, planned) in all.iter().enumerate() {
+        push_quantum(text, processors, place, planned)?;
+    }
+    Ok(())
+}
+
+/// What stands before the element of a list at a place.
+fn comma(place: usize) -> &'static str
+    ensures { result.now ≡ comma place }
+{
+    if place == 0 { "" } else { "," }
+}
+
+/// Adds the quantum at a place.
+fn push_quantum(
+    text: &mut Vec<u8>,
+    processors: Option<u64>,
+    place: usize,
+    planned: &Planned,
+) -> Result<(), AllocError>
+    requires { HoldsPlan planned.now.plan }
+    ensures { OnOk result (text.new.items ≡ text.old.items ++ quantum_item processors place planned.now) }
+{
+    let quantum = planned.quantum.length;
+    let needed = planned.needed.unwrap_or(0);
+    push_parts(text, &[Part::Words(comma(place))])?;
+    match &planned.plan {
+        Some(plan) => push_plan(text, processors, quantum, needed, plan),
+        None => push_no_plan(text, quantum, &planned.faults),
+    }
+}
+
+/// Adds a quantum with a plan.
+#[tactic(auto, unfolding(crate::specs::Conversion::Json::plan_json))]
+fn push_plan(
+    text: &mut Vec<u8>,
+    processors: Option<u64>,
+    quantum: u64,
+    needed: u64,
+    plan: &Plan,
+) -> Result<(), AllocError>
+    requires { HoldsTasks plan.now }
+    ensures { OnOk result (text.new.items ≡ text.old.items ++ plan_json processors quantum needed plan.now) }
+{
+    push_plan_head(text, processors, quantum, needed, plan)?;
+    push_slots(text, quantum, &plan.tasks)?;
+    push_parts(text, &[Part::Words("]}")])
+}
+
+/// Adds what comes before the tasks of a plan.
+fn push_plan_head(
+    text: &mut Vec<u8>,
+    processors: Option<u64>,
+    quantum: u64,
+    needed: u64,
+    plan: &Plan,
+) -> Result<(), AllocError>
+    ensures { OnOk result (text.new.items ≡ text.old.items ++ plan_head processors quantum needed plan.now) }
+{
+    push_parts(
+        text,
+        &[
+            Part::Words("{\"base\":"),
+            Part::Number(plan.base),
+            Part::Words(",\"exact\":"),
+            Part::Words(truth(plan.exact)),
+            Part::Words(",\"faults\":[],\"fits\":"),
+            Part::Words(fits_word(processors, needed)),
+            Part::Words(",\"load\":"),
+            Part::Number(plan.load),
+            Part::Words(",\"processors\":"),
+            Part::Number(needed),
+            Part::Words(",\"quantum\":"),
+            Part::Number(quantum),
+            Part::Words(",\"tasks\":["),
+        ],
+    )
+}
+
+/// The word of a truth.
+fn truth(is: bool) -> &'static str
+    ensures { result.now ≡ truth is }
+{
+    if is { "true" } else { "false" }
+}
+
+/// Whether a plan fits that needs so many processors.
+fn fits_word(processors: Option<u64>, needed: u64) -> &'static str
+    ensures { result.now ≡ fits_word processors needed }
+{
+    if needed <= processors.unwrap_or(MOST_PROCESSORS) {
+        "true"
+    } else {
+        "false"
+    }
+}
+
+/// Adds a quantum without a plan.
+#[tactic(auto, unfolding(crate::specs::Conversion::Json::no_plan_json))]
+fn push_no_plan(text: &mut Vec<u8>, quantum: u64, faults: &Lines) -> Result<(), AllocError>
+    ensures { OnOk result (text.new.items ≡ text.old.items ++ no_plan_json quantum faults.now) }
+{
+    push_parts(
+        text,
+        &[Part::Words("{\"base\":null,\"exact\":null,\"faults\":[")],
+    )?;
+    push_faults(text, faults)?;
+    push_parts(
+        text,
+        &[
+            Part::Words("],\"fits\":false,\"load\":null,\"processors\":null,\"quantum\":"),
+            Part::Number(quantum),
+            Part::Words(",\"tasks\":[]}"),
+        ],
+    )
+}
+
+/// Adds the lines of faults.
+fn push_faults(text: &mut Vec<u8>, faults: &Lines) -> Result<(), AllocError>
+    ensures { OnOk result (text.new.items ≡ text.old.items ++ numbered fault_item 0 faults.now) }
+{
+    for place in 0..faults.len() {
+        push_fault(text, place, faults.line(place))?;
+    }
+    Ok(())
+}
+
+/// Adds the line of a fault at a place.
+fn push_fault(text: &mut Vec<u8>, place: usize, line: &[u8]) -> Result<(), AllocError>
+    ensures { OnOk result (text.new.items ≡ text.old.items ++ fault_item place line.now) }
+{
+    push_parts(
+        text,
+        &[
+            Part::Words(comma(place)),
+            Part::Words("\""),
+            Part::Bytes(line),
+            Part::Words("\""),
+        ],
+    )
+}
+
+/// Adds tasks in slots.
+fn push_slots(text: &mut Vec<u8>, quantum: u64, tasks: &[Slotted]) -> Result<(), AllocError>
+    requires { All IsSlotted tasks.now }
+    ensures { OnOk result (text.new.items ≡ text.old.items ++ numbered (slots_item quantum) 0 tasks.now) }
+{
+    for (place, task) in tasks.iter().enumerate() {
+        push_slotted(text, quantum, place, *task)?;
+    }
+    Ok(())
+}
+
+/// Adds the task in slots at a place.
+fn push_slotted(
+    text: &mut Vec<u8>,
+    quantum: u64,
+    place: usize,
+    task: Slotted,
+) -> Result<(), AllocError>
+    requires { IsSlotted task }
+    ensures { OnOk result (text.new.items ≡ text.old.items ++ slots_item quantum place task) }
+{
+    let period = u128::from(task.period);
+    let length = u128::from(quantum);
+    push_parts(
+        text,
+        &[
+            Part::Words(comma(place)),
+            Part::Words("{\"arrival\":"),
+            Part::Wide((period + 1) * length),
+            Part::Words(",\"cost\":"),
+            Part::Number(task.cost),
+            Part::Words(",\"early\":"),
+            Part::Number(task.early),
+            Part::Words(",\"join\":"),
+            Part::Number(task.join),
+            Part::Words(",\"period\":"),
+            Part::Number(task.period),
+            Part::Words(",\"response\":"),
+            Part::Wide(period * length),
+            Part::Words("}"),
+        ],
+    )
+}
+
+/// Adds tasks in time.
+fn push_tasks(text: &mut Vec<u8>, tasks: &[Listed]) -> Result<(), AllocError>
+    ensures { OnOk result (text.new.items ≡ text.old.items ++ numbered task_item 0 tasks.now) }
+{
+    for (place, task) in tasks.iter().enumerate() {
+        push_task(text, place, task)?;
+    }
+    Ok(())
+}
+
+/// Adds the task in time at a place.
+fn push_task(text: &mut Vec<u8>, place: usize, task: &Listed) -> Result<(), AllocError>
+    ensures { OnOk result (text.new.items ≡ text.old.items ++ task_item place task.now) }
+{
+    push_parts(
+        text,
+        &[
+            Part::Words(comma(place)),
+            Part::Words("{\"early\":"),
+            Part::Number(task.times.early),
+            Part::Words(",\"every\":"),
+            Part::Number(task.times.every),
+            Part::Words(",\"first\":"),
+            Part::Number(task.times.first),
+            Part::Words(",\"name\":\""),
+            Part::Bytes(task.name.as_bytes()),
+            Part::Words("\",\"work\":"),
+            Part::Number(task.times.work),
+            Part::Words("}"),
+        ],
+    )
+}

@@ -1,6 +1,0 @@
-use Rattle.std.proofs.Common.{◌≡◌, drop}
-use Rattle.pf_convert_words.specs.Reading.{has_quantum}
-use Rattle.pf_convert_words.proofs.quanta.has_quantum.Given as goal
-
-abbrev pub invariant-loop-other : goal.invariant-loop-other
-invariant-loop-other l = has_quantum l.quantum (drop l.other-index l.quanta) ≡ has_quantum l.quantum l.quanta

@@ -1,8 +1,0 @@
-//! What the words of a conversion ask for. The one contract of this crate: words are read as the quanta, the switch, the unit,
-//! the processors and the format that they tell, or the first of them that is mistaken is told.
-#![tactic(auto)]
-
-pub mod conversion;
-pub mod mistake;
-pub mod quanta;
-pub mod read;

@@ -1,5 +1,0 @@
-use Rattle.std.proofs.Common.{◌≡◌, ◌++◌, map, take, drop}
-use Rattle.pf_face.proofs.room.fill.Given as goal
-
-abbrev pub invariant-loop-k : goal.invariant-loop-k
-invariant-loop-k g l = l.room ≡ map g.T.ForC.raw (take l.k l.list) ++ drop l.k l.fn.room

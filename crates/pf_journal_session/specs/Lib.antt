@@ -1,0 +1,15 @@
+pub use Rattle.pf_journal.specs.Kept
+pub use Rattle.pf_journal.specs.Lines
+pub use Rattle.pf_journal.specs.declared.found.Found
+pub use Rattle.pf_journal.specs.declared.journal_error.JournalError
+pub use Rattle.pf_journal_file.specs.Faults
+pub use Rattle.pf_journal_file.specs.Sizes
+pub use Rattle.pf_journal_file.specs.declared.journal_fault.JournalFault
+pub use Rattle.pf_journal.specs.Recorder.Recording
+pub use Rattle.pf_session_turns.specs.Manner
+pub use Rattle.pf_session_turns.specs.Opening
+pub use Rattle.pf_session_turns.specs.Session
+pub use Rattle.pf_session_turns.specs.Sitters
+pub use Rattle.pf_session_turns.specs.Showing
+pub use Rattle.pf_session_turns.specs.Turns
+pub mod Journaled

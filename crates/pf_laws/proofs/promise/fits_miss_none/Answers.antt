@@ -1,0 +1,5 @@
+use Rattle.pf_laws.proofs.PromiseLemmas.FitLaws as fits
+use Rattle.pf_laws.proofs.promise.fits_miss_none.Goals as goal
+
+pub returns : goal.returns
+returns c = fits.fits_miss_none

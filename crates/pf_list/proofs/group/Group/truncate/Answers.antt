@@ -1,9 +1,0 @@
-use Rattle.std.proofs.Common.{rules}
-use Rattle.pf_list.proofs.Owners.{first_values}
-use Rattle.pf_list.proofs.group.Group.truncate.Goals as goal
-
-pub returns-in-Some-get_mut-clause-ok : goal.returns-in-Some-get_mut-clause-ok
-returns-in-Some-get_mut-clause-ok g c = let first = first_values c.args.count c.in-Some-get_mut.items.now.items in search rules
-
-pub returns-clause-ok : goal.returns-clause-ok
-returns-clause-ok g c = let first = first_values c.args.count c.owners.result.now in search rules

@@ -1,6 +1,0 @@
-use Rattle.std.proofs.Common.{Some, ap, ◌∙◌}
-use Rattle.pf_list.proofs.Owners.{equal_put}
-use Rattle.pf_list.proofs.group.put.Goals as goal
-
-pub returns-in-Ok : goal.returns-in-Ok
-returns-in-Ok g c = equal_put c.args.items.now.items c.args.k c.in-Ok.owner (ap Some c.in-Ok.ensures ∙ c.requires)

@@ -1,5 +1,0 @@
-//! The last column of a table of tasks: in a plan what the script calls each. The one contract of this crate: a heading
-//! and a record end in that column where the script is a plan, and else they are as they were.
-#![tactic(auto)]
-
-pub mod column;

@@ -1,6 +1,0 @@
-use Rattle.pf_plain.specs.Carried.{state_to_be}
-use Rattle.pf_plain.proofs.Behind.{line_more}
-use Rattle.pf_plain.proofs.carried.Carried.wait.Goals as goal
-
-pub returns : goal.returns
-returns c = rw (← c.self.view_is) (line_more (state_to_be c.self.inside.desk) c.self.inside.waiting.items c.push.new.self.items c.args.line c.in_ok-push.ensures.items)

@@ -1,5 +1,0 @@
-use Rattle.pf_promise.proofs.FitLaws as fits
-use Rattle.pf_promise.proofs.fits_keep_lags.Goals as goal
-
-pub returns : goal.returns
-returns c = fits.fits_keep_lags

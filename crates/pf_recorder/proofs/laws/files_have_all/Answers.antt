@@ -1,5 +1,0 @@
-use Rattle.pf_recorder.proofs.Told.{told_all}
-use Rattle.pf_recorder.proofs.laws.files_have_all.Goals as goal
-
-pub returns : goal.returns
-returns g c = told_all _ _ _ _ _ _ _ _ _ _

@@ -1,5 +1,0 @@
-use Rattle.pf_recorder.proofs.Told.{told}
-use Rattle.pf_recorder.proofs.laws.files_have_what_was_told.Goals as goal
-
-pub returns : goal.returns
-returns g c = told _ _ _ _ _ _ _ _ _ _

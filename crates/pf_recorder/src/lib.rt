@@ -1,8 +1,0 @@
-//! Who sits at a desk and keeps what was answered in a journal. The one contract of this crate: what is kept of an answer is on the
-//! disk before the answer is told, all lines that the script got by it, after those before; where it can't be, a crash leaves a front
-//! of these lines.
-#![tactic(auto)]
-
-pub mod laws;
-pub mod opening;
-pub mod recorder;

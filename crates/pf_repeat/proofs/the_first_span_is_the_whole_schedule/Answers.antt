@@ -1,5 +1,0 @@
-use Rattle.pf_repeat.proofs.Repeats as repeats
-use Rattle.pf_repeat.proofs.the_first_span_is_the_whole_schedule.Goals as goal
-
-pub returns : goal.returns
-returns c = repeats.first_span_is_all

@@ -1,5 +1,0 @@
-use Rattle.pf_resumed.proofs.Begun.{begun_kept}
-use Rattle.pf_resumed.proofs.laws.begun_are_kept.Goals as goal
-
-pub returns : goal.returns
-returns g c = begun_kept _ _ _

@@ -1,5 +1,0 @@
-use Rattle.pf_resumed.proofs.Sat.{crash_leaves}
-use Rattle.pf_resumed.proofs.laws.crashes_leave_told.Goals as goal
-
-pub returns : goal.returns
-returns g c = crash_leaves _ _ _ _ _ _ _ _

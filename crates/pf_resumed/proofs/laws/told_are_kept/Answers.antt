@@ -1,5 +1,0 @@
-use Rattle.pf_resumed.proofs.Sat.{told_kept}
-use Rattle.pf_resumed.proofs.laws.told_are_kept.Goals as goal
-
-pub returns : goal.returns
-returns g c = told_kept _ _ _ _ _ _ _ _

@@ -1,8 +1,0 @@
-//! The rows of texts that people write: CSV with comments and with blanks around the fields. The one contract of this crate: a
-//! reader answers row by row what rows a text has, each with the line on which it begins.
-#![tactic(auto)]
-
-mod place;
-mod records;
-mod row_lines;
-pub mod rows;

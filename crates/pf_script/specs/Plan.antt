@@ -1,0 +1,4 @@
+pub mod Heading
+pub mod Labels
+pub mod Parsing
+pub mod Progress

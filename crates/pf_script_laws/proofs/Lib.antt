@@ -1,0 +1,7 @@
+pub mod AgreementLemmas
+pub mod ConversionsLemmas
+pub mod InertPagesLemmas
+pub mod PlanFitsLemmas
+pub mod ReopeningLemmas
+pub mod RepairsLemmas
+pub mod TitlesLemmas

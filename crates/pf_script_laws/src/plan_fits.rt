@@ -1,0 +1,21 @@
+//! Whether the script of a plan fits. What a conversion says of its plan is what `fit` says of a desk that answered the script's
+//! commands.
+
+ghost use Rattle.pf_script_laws.specs.PlanFits.Laws.{PlansAreTaken, PlansFitWhereTheyAreSaidTo, PlansMissNothing};
+
+/// A desk that is asked what a plan's script says refuses nothing.
+pub fn plans_are_taken()
+    ensures { PlansAreTaken }
+{}
+
+/// The verdict on a desk that was asked what a plan's script says is `fits` just where the load of the plan is within its
+/// processors, as the conversion says.
+pub fn plans_fit_where_they_are_said_to()
+    ensures { PlansFitWhereTheyAreSaidTo }
+{}
+
+/// No window is ever missed of a desk that was asked what a plan's script says, over any number of slots: where its load is above
+/// the processors, joins are denied.
+pub fn plans_miss_nothing()
+    ensures { PlansMissNothing }
+{}

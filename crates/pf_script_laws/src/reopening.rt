@@ -1,0 +1,3 @@
+//! A desk that is opened again by its own script.
+
+pub mod laws;

@@ -1,0 +1,32 @@
+ghost use Rattle.pf_session_laws.specs.Crashed.{BegunAreKept, CrashesLeaveTold, ToldAreKept};
+ghost use Rattle.pf_session_laws.specs.Resumed.{JournalsBeginAgain, ScriptsBeginAgain};
+
+use pf_stream::dialogue::dialogue::Dialogue;
+use sqlite_disk::Disk;
+
+/// The script of a session that has its settings begins the same session again: its settings and its desk, the names and the labels.
+/// What there is to take back and whether a line was bad begin anew.
+pub fn scripts_begin_again()
+    ensures { ScriptsBeginAgain }
+{}
+
+/// So does a journal that has the records of a session.
+pub fn journals_begin_again()
+    ensures { JournalsBeginAgain }
+{}
+
+/// A session that begins on a file that is new, or has the records of a session, is kept in it.
+pub fn begun_are_kept<D: Disk>()
+    ensures { BegunAreKept D.seen D.may_leave D.is_clean }
+{}
+
+/// Whenever more is asked for in a sitting, the session that was told so far is kept.
+pub fn told_are_kept<D: Disk, T: Dialogue>()
+    ensures { ToldAreKept D.seen D.may_leave D.is_clean D.is_mixing T.hears T.is_deaf T.tells T.is_mute }
+{}
+
+/// Whatever such a sitting comes to, a crash leaves a journal that begins the session again as it was told, after some more lines maybe,
+/// each of them whole. On disks that leave each byte of a torn write as it was or as it was written, it opens.
+pub fn crashes_leave_told<D: Disk, T: Dialogue>()
+    ensures { CrashesLeaveTold D.seen D.may_leave D.is_clean D.is_mixing T.hears T.is_deaf T.tells T.is_mute }
+{}

@@ -1,0 +1,181 @@
+ghost use Rattle.std.specs.Prelude.{◌≡◌, Some, IfOk, codes};
+ghost use Rattle.std.specs.Str.Lines.{strip_carriage_return};
+ghost use Rattle.pf_session_lines.specs.Heard.{bad, heard, heard_asked, heard_fault, heard_fields, heard_heading, heard_record, heard_within, heard_word};
+
+use crate::ask::ask;
+use crate::asked::Asked;
+use crate::bytes::Bytes;
+use crate::fault::{LineFault, LineReason};
+use crate::heard::Heard;
+use crate::reason::reason_text;
+use crate::row_text::{line_of, row_text};
+use crate::word::Word;
+use csv::ByteRecord;
+use pf_script::fields::Fields;
+use pf_script::plan::fault::RecordFault;
+use pf_script::plan::heading::{heading_fault, is_plan_heading};
+use pf_script::plan::said::Said;
+use pf_script::plan::state::Progress;
+use pf_text::rows::rows::{NextRow, Rows};
+use std::alloc::{AllocError, Global};
+
+/// The most bytes that a line may have, without its end.
+pub const LONGEST_LINE: usize = 65_536;
+
+/// What a line is after what came before it, without its line feed; a carriage return at its end is no part of it. `is_first`: no
+/// record was good so far, so the heading may come.
+///
+/// # Errors
+///
+/// Where memory is refused.
+pub fn hear(
+    alloc: Global,
+    is_first: bool,
+    progress: &Progress,
+    line: &[u8],
+) -> Result<Heard, AllocError>
+    ensures { IfOk result (λ h. h ≡ heard is_first progress.now line.now) }
+{
+    hear_within(alloc, is_first, progress, without_return(line))
+}
+
+/// The line without the carriage return that may stand at its end.
+fn without_return(line: &[u8]) -> &[u8]
+    ensures { result.now ≡ strip_carriage_return line.now }
+{
+    match line {
+        [front @ .., b'\r'] => front,
+        _ => line,
+    }
+}
+
+/// What a line is without its end.
+fn hear_within(
+    alloc: Global,
+    is_first: bool,
+    progress: &Progress,
+    line: &[u8],
+) -> Result<Heard, AllocError>
+    ensures { IfOk result (λ h. h ≡ heard_within is_first progress.now line.now) }
+{
+    if line.len() > LONGEST_LINE {
+        return Ok(Heard::Bad {
+            field: 0,
+            text: Bytes::copy(alloc, b"it has more than 65536 bytes")?,
+        });
+    }
+    if line == b"step".as_slice() {
+        return hear_step(alloc, is_first, progress);
+    }
+    let text = row_text(alloc, line)?;
+    let mut rows = Rows::new(alloc, &text);
+    let mut row = ByteRecord::new(alloc);
+    match rows.next(&mut row)? {
+        NextRow::Found(_) => hear_fields(alloc, is_first, progress, &Fields::new(&row)),
+        NextRow::End(_) => Ok(Heard::Nothing),
+    }
+}
+
+/// What the line is that steps a slot. Its row has one field, and is made without a reader of CSV: to make one takes ten times as
+/// long as a step.
+#[tactic(auto, using(crate::proofs::Stepped::step_fields))]
+fn hear_step(alloc: Global, is_first: bool, progress: &Progress) -> Result<Heard, AllocError>
+    ensures { IfOk result (λ h. h ≡ heard_within is_first progress.now (codes "step")) }
+{
+    let mut row = ByteRecord::new(alloc);
+    row.push_field(b"step")?;
+    hear_fields(alloc, is_first, progress, &Fields::new(&row))
+}
+
+/// What a line with fields is.
+fn hear_fields(
+    alloc: Global,
+    is_first: bool,
+    progress: &Progress,
+    fields: &Fields,
+) -> Result<Heard, AllocError>
+    ensures { IfOk result (λ h. h ≡ heard_fields is_first progress.now (Some fields.now)) }
+{
+    if is_first && is_plan_heading(fields) {
+        return hear_heading(alloc, fields, heading_fault(fields));
+    }
+    match Word::at(fields) {
+        Some(word) => hear_word(alloc, fields, ask(progress, word, fields)),
+        None => hear_record(alloc, fields, progress.read(fields)),
+    }
+}
+
+/// A heading with these fields, which may have a fault.
+fn hear_heading(
+    alloc: Global,
+    fields: &Fields,
+    fault: Option<RecordFault>,
+) -> Result<Heard, AllocError>
+    ensures { IfOk result (λ h. h ≡ heard_heading fields.now fault) }
+{
+    match fault {
+        None => Ok(Heard::Heading),
+        Some(fault) => hear_fault(alloc, fields, fault),
+    }
+}
+
+/// A word with these fields.
+fn hear_word(
+    alloc: Global,
+    fields: &Fields,
+    asked: Result<Asked, LineFault>,
+) -> Result<Heard, AllocError>
+    ensures { IfOk result (λ h. h ≡ heard_word fields.now asked) }
+{
+    match asked {
+        Ok(asked) => hear_asked(alloc, fields, asked),
+        Err(fault) => hear_bad(alloc, fields, fault),
+    }
+}
+
+/// What a word with these fields asks for.
+fn hear_asked(alloc: Global, fields: &Fields, asked: Asked) -> Result<Heard, AllocError>
+    ensures { IfOk result (λ h. h ≡ heard_asked fields.now asked) }
+{
+    match asked {
+        Asked::Shown(wanted) => Ok(Heard::Shown(wanted)),
+        Asked::Undo => Ok(Heard::Undo),
+        Asked::Save => Ok(Heard::Save(Bytes::copy(alloc, fields.field(1))?)),
+        Asked::Help => Ok(Heard::Help),
+        Asked::Quit => Ok(Heard::Quit),
+    }
+}
+
+/// A record with these fields.
+fn hear_record(
+    alloc: Global,
+    fields: &Fields,
+    read: Result<Said, RecordFault>,
+) -> Result<Heard, AllocError>
+    ensures { IfOk result (λ h. h ≡ heard_record fields.now read) }
+{
+    match read {
+        Ok(said) => Ok(Heard::Record(said, Bytes::of(line_of(alloc, fields)?))),
+        Err(fault) => hear_fault(alloc, fields, fault),
+    }
+}
+
+/// A bad record with these fields.
+fn hear_fault(alloc: Global, fields: &Fields, fault: RecordFault) -> Result<Heard, AllocError>
+    ensures { IfOk result (λ h. h ≡ heard_fault fields.now fault) }
+{
+    let RecordFault { field, reason } = fault;
+    let reason = LineReason::OfRecord(reason);
+    hear_bad(alloc, fields, LineFault { field, reason })
+}
+
+/// A bad line with these fields.
+fn hear_bad(alloc: Global, fields: &Fields, fault: LineFault) -> Result<Heard, AllocError>
+    ensures { IfOk result (λ h. h ≡ bad fields.now fault) }
+{
+    let at = fields.field(fault.field.saturating_sub(1));
+    Ok(Heard::Bad {
+        field: fault.field as u64,
+        text: reason_text(alloc, at, fault.reason)?,
+    })
+}

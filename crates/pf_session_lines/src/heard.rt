@@ -1,0 +1,31 @@
+use crate::bytes::Bytes;
+use crate::wanted::Wanted;
+use pf_script::plan::said::Said;
+
+/// What a line is.
+#[derive(Drop)]
+pub enum Heard {
+    /// It has no record and no answer.
+    Nothing,
+    /// The heading `plan,1`.
+    Heading,
+    /// A record, and the line that goes after the script: its fields joined by commas, and a line feed.
+    Record(Said, Bytes),
+    /// A word that asks for this to be shown.
+    Shown(Wanted),
+    /// The last change is to be taken back.
+    Undo,
+    /// The script is to be written to the file of this name.
+    Save(Bytes),
+    /// The words are to be told.
+    Help,
+    /// The session is to end.
+    Quit,
+    /// A bad line.
+    Bad {
+        /// The field at fault, counted from 1; 0 where there is none.
+        field: u64,
+        /// Why it is bad.
+        text: Bytes,
+    },
+}

@@ -1,0 +1,9 @@
+pub use Rattle.pf_answers.specs.declared.manner.Manner
+pub use Rattle.pf_session_lines.specs.Heard
+pub use Rattle.pf_session_views.specs.Shown
+pub use Rattle.pf_session_views.specs.declared.showing.Showing
+pub use Rattle.pf_session.specs.Session
+pub mod Turns
+pub mod Opening
+pub mod Sitters
+pub mod Grows

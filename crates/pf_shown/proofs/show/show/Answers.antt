@@ -1,9 +1,0 @@
-use Rattle.std.proofs.Common.{subst}
-use Rattle.pf_plain.specs.Plain.{MakesPlain, plain}
-use Rattle.pf_shown.proofs.Shown.{plan_shows}
-use Rattle.pf_shown.proofs.show.show.Goals as goal
-
-pub returns-in-Some : goal.returns-in-Some
-returns-in-Some c =
-    plan_shows c.in-Some.plain c.args.wanted.now c.args.script.now c.show_plan.result
-    (subst (λ made. MakesPlain made (plain c.args.script.now)) c.in-Some.is c.in_ok-plain.ensures) c.show_plan.ensures

@@ -1,9 +1,0 @@
-pub use Rattle.pf_answers.specs.declared.manner.Manner
-pub use Rattle.pf_heard.specs.Heard
-pub use Rattle.pf_shown.specs.Shown
-pub use Rattle.pf_shown.specs.declared.showing.Showing
-pub use Rattle.pf_session.specs.Session
-pub mod Turns
-pub mod Opening
-pub mod Sitters
-pub mod Grows

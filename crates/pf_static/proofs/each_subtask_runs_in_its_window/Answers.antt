@@ -1,5 +1,0 @@
-use Rattle.pf_static.proofs.Timely as timely
-use Rattle.pf_static.proofs.each_subtask_runs_in_its_window.Goals as goal
-
-pub returns : goal.returns
-returns c = timely.each_runs_in_its_window

@@ -1,5 +1,0 @@
-use Rattle.pf_static.proofs.Fits as fits
-use Rattle.pf_static.proofs.pd2_serves_what_can_be_served.Goals as goal
-
-pub returns : goal.returns
-returns c = fits.served_by_pd2

@@ -1,9 +1,0 @@
-use Rattle.std.proofs.Common.{◌≡◌, ◌≤◌, length}
-use Rattle.pf_task_list.specs.List.{tasks_told}
-use Rattle.pf_task_list.proofs.list.read_tasks.Given as goal
-
-abbrev pub invariant-loop-count : goal.invariant-loop-count
-invariant-loop-count l = record {
-  told : tasks_told l.unit l.heading l.count l.list l.rows.end l.rows.rows ≡ tasks_told l.unit l.heading 0 l.initial.list l.initial.rows.end l.initial.rows.rows;
-  few : length l.list.tasks ≤ l.count;
-}

@@ -1,0 +1,5 @@
+pub mod NamesLemmas
+pub mod QuestionsLemmas
+pub mod TaskLinesLemmas
+pub mod TaskWordsLemmas
+pub mod TasksLemmas

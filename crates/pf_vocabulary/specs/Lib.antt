@@ -1,0 +1,9 @@
+pub mod Fault
+pub mod Look
+pub mod NameColumn
+pub mod Names
+pub mod Options
+pub mod Questions
+pub mod TaskLines
+pub mod TaskWords
+pub mod Tasks

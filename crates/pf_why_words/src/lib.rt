@@ -1,8 +1,0 @@
-//! What is asked of a slot of a run. The one contract of this crate: words are read as the slot, the task and the format that they
-//! tell, or the first of them that is mistaken is told.
-#![tactic(auto)]
-
-pub mod mistake;
-pub mod question;
-pub mod read;
-pub mod task_asked;

@@ -1,5 +1,0 @@
-mod Growing
-mod Pairs
-mod Reading
-pub mod Unasked
-mod Worked

@@ -1,9 +1,0 @@
-pub mod Asked
-pub mod Choices
-pub mod CommandLine
-pub mod Desks
-pub mod Diffs
-pub mod Examples
-pub mod Lines
-pub mod Rows
-pub mod Texts

@@ -1,6 +1,0 @@
-ghost use Rattle.pf_words.specs.Examples.{WorkedWords};
-
-/// What the worked words ask for.
-pub fn worked_words_ask_so()
-    ensures { WorkedWords }
-{}

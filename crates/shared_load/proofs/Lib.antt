@@ -1,0 +1,3 @@
+mod Opened
+pub mod RatesLemmas
+pub mod SoakLemmas

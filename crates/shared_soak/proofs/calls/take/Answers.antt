@@ -1,6 +1,0 @@
-use Rattle.std.proofs.Common.{◌∙◌}
-use Rattle.shared_soak.proofs.Kept.{takes_on}
-use Rattle.shared_soak.proofs.calls.take.Goals as goal
-
-pub returns : goal.returns
-returns g c = takes_on _ _ _ _ c.take.result c.take.ensures.taken ∙ c.requires

@@ -1,5 +1,0 @@
-use Rattle.shared_soak.proofs.main.Given as goal
-
--- the desk that was just opened
-abbrev pub ghosts-check_round : goal.ghosts-check_round
-ghosts-check_round g a = record { board = a.blank.board; book = a.blank.book }

@@ -1,5 +1,0 @@
-use Rattle.shared_soak.specs.Seated.{IsSeated}
-use Rattle.shared_soak.proofs.worker.Worker.take_some.Given as goal
-
-abbrev pub invariant-loop : goal.invariant-loop
-invariant-loop g l = IsSeated g.N.Naming.board g.N.Naming.book l.self
