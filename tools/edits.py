@@ -123,6 +123,15 @@ def made_together(texts, edits):
     return texts
 
 
+def laws_over(crate, path, texts):
+    """The module whose laws judge a definition or a lemma: that of its folder's laws, or its folder, or of the crate."""
+    folder = re.sub(r"(?<=[a-z])(?=[A-Z])", "_", path.split("/")[1].removesuffix(".antt").removesuffix("Lemmas")).lower()
+    for module in (f"{folder}/laws", folder, "laws") if f"src/{folder}.rt" in texts else ("laws",):
+        if f"src/{module}.rt" in texts:
+            return "::".join([crate, *module.split("/")])
+    return crate
+
+
 def touched_by(crate, before, after):
     """The functions whose lines differ, or the modules where others do; and whether all are functions."""
     touched, is_of_bodies = set(), True
@@ -130,7 +139,7 @@ def touched_by(crate, before, after):
         if after[path] == before[path]:
             continue
         if not path.startswith("src/"):
-            touched, is_of_bodies = touched | {f"{crate}::laws" if "src/laws.rt" in before else crate}, False
+            touched, is_of_bodies = touched | {laws_over(crate, path, before)}, False
             continue
         inside = functions_of(crate, path, before[path])
         lines = (before[path].split("\n"), after[path].split("\n"))
@@ -181,6 +190,7 @@ def read_edits(folder):
         touched, is_of_bodies = touched_by(folder.name, texts, after)
         clause = read_clause(file)
         # A constant is judged by the law that its edit names.
-        law = {f"{folder.name}::laws"} if clause and clause[0].startswith("laws::") else set()
-        edits.append(Edit(file.stem, changes, touched | law, is_of_bodies, file.parent.name == "more", clause, file))
+        law = re.match(r"(?:\w+::)?laws(?=::)", clause[0]) if clause else None
+        touched |= {f"{folder.name}::{law[0]}"} if law else set()
+        edits.append(Edit(file.stem, changes, touched, is_of_bodies, file.parent.name == "more", clause, file))
     return texts, edits, bad
