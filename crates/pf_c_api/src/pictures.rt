@@ -10,7 +10,7 @@ use crate::texts::fill_format;
 use pf_vocabulary::options::format::Format;
 use std::alloc::Global;
 
-/// Writes a picture as SVG of the slots from `from` on and below `to`, at most `MOST_SLOTS` of pf_look, in this look.
+/// Writes a picture as SVG of the slots from `from` on and below `to`, at most `MOST_SLOTS` of pf_vocabulary, in this look.
 /// `count` is how many bytes it has, where the room is too short too.
 ///
 /// # Errors

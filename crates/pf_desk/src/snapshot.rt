@@ -213,7 +213,7 @@ impl Snapshot {
     }
 
     /// Whether the loads of the slots below now were within the processors in use, and if not, from which slot on and by how
-    /// much. By the laws of pf_promise no window was missed where they were, and the lag of a task that never runs early stayed
+    /// much. By the laws of pf_laws no window was missed where they were, and the lag of a task that never runs early stayed
     /// within a quantum; and no task was tardy by more slots than the overload has quanta.
     ///
     /// # Errors

@@ -52,7 +52,7 @@ pub fn tardiness_is_bounded()
 ///
 /// Source of the theorem, for tasks that join and leave at will and are delayed: Srinivasan and Anderson, "Optimal
 /// rate-based scheduling on multiprocessors", STOC 2002, and "Fair scheduling of dynamic task systems on
-/// multiprocessors", WPDRTS 2003. The proof is another: see pf_ideal.
+/// multiprocessors", WPDRTS 2003. The proof is another: see the folder ideal.
 pub fn no_window_is_missed()
     ensures { NoWindowIsMissed }
 {}

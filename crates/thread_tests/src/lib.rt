@@ -3,7 +3,7 @@
 //! desk answer as their worked examples; that a desk is opened at its limits where memory is ample, that a call whose memory was
 //! refused makes no entry and succeeds when it is made again, and that a viewer reads nothing once the desk is ended; that a
 //! drill ends well where each gate opens, that a shut gate ends it, and that its workers run at once; and the texts of faults.
-//! Threads that use a desk at once are tried by the program shared_soak too.
+//! Threads that use a desk at once are tried by the program shared_load too.
 #![tactic(auto)]
 
 #[cfg(test)]

@@ -6,7 +6,7 @@ use core::ptr;
 ///
 /// How the types keep the four duties. Pointers come from references and slices, which are never null. A handle begins as
 /// null, is not `Clone` and is closed when dropped. It is not `Sync`, and no call calls back, so it is in one call at a
-/// time, by `&self` too; that it may go to another thread is proved of the library (`handle_crosses` of pf_face). Signal
+/// time, by `&self` too; that it may go to another thread is proved of the library (`handle_crosses` of pf_c_api). Signal
 /// handlers and forks are the program's own, as they are for any allocation.
 pub struct Handle {
     raw: UnsafeCell<pfair_desk>,
