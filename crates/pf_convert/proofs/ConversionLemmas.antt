@@ -1,4 +1,4 @@
-mod Agreeing
+pub mod Agreeing
 pub mod Numbering
 pub mod Joins
 pub mod Bases

@@ -8,4 +8,4 @@ mod Putting
 mod Pushing
 mod Counting
 mod Adding
-pub mod RecorderLemmas
+mod RecorderLemmas

@@ -1,2 +1,2 @@
-mod Begun
-mod Told
+pub mod Begun
+pub mod Told

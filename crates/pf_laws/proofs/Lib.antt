@@ -1,8 +1,8 @@
 pub mod ExamplesLemmas
 pub mod IdealLemmas
 pub mod JoinsLemmas
-pub mod NecessityLemmas
+mod NecessityLemmas
 pub mod PromiseLemmas
 pub mod ReachLemmas
-pub mod RepetitionLemmas
+mod RepetitionLemmas
 pub mod StaticSetsLemmas

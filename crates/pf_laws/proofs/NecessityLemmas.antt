@@ -1,3 +1,3 @@
-mod Pigeonhole
-mod Eligible
-mod Missed
+pub mod Pigeonhole
+pub mod Eligible
+pub mod Missed

@@ -1,8 +1,8 @@
-mod Shifted
-mod Ordered
-mod Start
-mod Lags
-mod Multiples
-mod Choices
-mod Spans
-mod Repeats
+pub mod Shifted
+pub mod Ordered
+pub mod Start
+pub mod Lags
+pub mod Multiples
+pub mod Choices
+pub mod Spans
+pub mod Repeats

@@ -11,5 +11,5 @@ pub mod ScriptExamples
 pub mod ToldExamples
 pub mod CheckLemmas
 pub mod FaultNotesLemmas
-pub mod PlanLemmas
-pub mod PlanCheckLemmas
+mod PlanLemmas
+mod PlanCheckLemmas

@@ -1,1 +1,1 @@
-mod GrammarExamples
+pub mod GrammarExamples

@@ -1,5 +1,5 @@
-mod Texts
-mod Values
-mod Names
-mod Whole
-mod Pages
+pub mod Texts
+pub mod Values
+pub mod Names
+pub mod Whole
+pub mod Pages

@@ -1,6 +1,6 @@
 pub mod AgreementLemmas
 pub mod ConversionsLemmas
-pub mod InertPagesLemmas
+mod InertPagesLemmas
 pub mod PlanFitsLemmas
 pub mod ReopeningLemmas
 pub mod RepairsLemmas

@@ -1,6 +1,6 @@
-mod Short
-mod Rows
-mod Says
-mod Names
-mod Plain
+pub mod Short
+pub mod Rows
+pub mod Says
+pub mod Names
+pub mod Plain
 pub mod Whole

@@ -3,4 +3,4 @@ pub mod Recorded
 pub mod Filled
 mod Flexible
 pub mod ColumnsLemmas
-pub mod RowsLemmas
+mod RowsLemmas

@@ -1,4 +1,4 @@
-mod Counting
-mod Lines
-mod Reading
-mod RowExamples
+pub mod Counting
+pub mod Lines
+pub mod Reading
+pub mod RowExamples

@@ -1,5 +1,5 @@
-pub mod NamesLemmas
-pub mod QuestionsLemmas
+mod NamesLemmas
+mod QuestionsLemmas
 pub mod TaskLinesLemmas
 pub mod TaskWordsLemmas
 pub mod TasksLemmas

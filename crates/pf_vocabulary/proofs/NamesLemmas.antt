@@ -1,2 +1,2 @@
-mod TextExamples
-mod Texts
+pub mod TextExamples
+pub mod Texts

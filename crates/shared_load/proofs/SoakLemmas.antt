@@ -1,3 +1,3 @@
-mod Boarded
+pub mod Boarded
 pub mod Kept
-mod Seating
+pub mod Seating
