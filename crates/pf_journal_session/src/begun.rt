@@ -13,6 +13,7 @@ use pf_journal::state::State;
 use pf_journal_file::journal_fault::JournalFault;
 use pf_journal_file::sizes::Sizes;
 use pf_session::session::Session;
+use pf_session_lines::shows::Shows;
 use pf_session_turns::opening::open_script;
 use pf_session_turns::saver::Saver;
 use pf_session_turns::sitter::Sitter;
@@ -22,9 +23,9 @@ use std::alloc::Global;
 
 /// A session that began on a file.
 #[derive(Drop)]
-pub struct Opened<S: Saver, D: Disk> {
+pub struct Opened<S: Saver, V: Shows, D: Disk> {
     /// Who answers, and keeps in the file what was answered.
-    pub recorder: Recorder<Sitter<S>, D>,
+    pub recorder: Recorder<Sitter<S, V>, D>,
     /// How much the file has.
     pub sizes: Sizes,
 }
@@ -37,19 +38,20 @@ pub struct Opened<S: Saver, D: Disk> {
 /// `Journal` with `NoHeading` where the file is no journal, with `Damaged` where it is damaged, with `HasRecords` where a script is given and it has records, else where it
 /// can't be opened or written; `Record` where a record of the file is bad, and `Script` where one of the script is, or where memory is
 /// refused meanwhile. Nothing was written to the file, but where it could not be written.
-pub fn open_journal<S: Saver + Drop, D: Disk + Drop>(
+pub fn open_journal<S: Saver + Drop, V: Shows + Drop, D: Disk + Drop>(
     alloc: Global,
     found: Found<D>,
     manner: Manner,
     script: Option<&[u8]>,
     saver: S,
-) -> Result<Opened<S, D>, Unopened>
+    views: V,
+) -> Result<Opened<S, V, D>, Unopened>
     requires { IsFound D.Disk.seen D.Disk.may_leave D.Disk.is_usable D.Disk.is_clean found }
     ensures begins { IfOk result (λ o. Begins D.Disk.seen D.Disk.may_leave D.Disk.is_clean manner (option_map (λ s. s.now) script.entry) (found_disk found) (found_bytes found) o.recorder o.sizes) }
     ensures unopened { IfErr result (λ u. DoesNotBegin manner (option_map (λ s. s.now) script.entry) (found_bytes found) u) }
 {
     match begin_on(alloc, &found, manner, script) {
-        Ok(session) => keep_session(alloc, found, session, saver),
+        Ok(session) => keep_session(alloc, found, session, saver, views),
         Err(unopened) => Err(unopened),
     }
 }
@@ -142,19 +144,20 @@ fn unbegun<D: Disk + Drop>(
 /// # Errors
 ///
 /// `Journal` where the file can't be opened or written.
-fn keep_session<S: Saver + Drop, D: Disk + Drop>(
+fn keep_session<S: Saver + Drop, V: Shows + Drop, D: Disk + Drop>(
     alloc: Global,
     found: Found<D>,
     mut session: Session,
     saver: S,
-) -> Result<Opened<S, D>, Unopened>
+    views: V,
+) -> Result<Opened<S, V, D>, Unopened>
     requires { IsFound D.Disk.seen D.Disk.may_leave D.Disk.is_usable D.Disk.is_clean found }
     ensures kept { IfOk result (λ o. IsKeptOn D.Disk.seen D.Disk.may_leave D.Disk.is_clean session (found_disk found) (found_bytes found) o.recorder o.sizes) }
     ensures unkept { IfErr result IsUnwritten }
 {
     let sizes = Sizes::of(&session, found.torn_bytes() as u64);
     session.forget_made();
-    match Recorder::open(alloc, found, Sitter::new(session, saver)) {
+    match Recorder::open(alloc, found, Sitter::new(session, saver, views)) {
         Ok(recorder) => Ok(Opened { recorder, sizes }),
         Err(Failed { error, disk }) => {
             drop(disk);

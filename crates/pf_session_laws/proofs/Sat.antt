@@ -3,8 +3,9 @@ use Rattle.std.proofs.Common.{◌≡◌, ◌∙◌, ℕ, Bool, false, IsTrue, Op
 use Rattle.std.specs.Prelude.{◌⊎◌, is_some}
 use Rattle.std.proofs.lemmas.List.{append_cancel_left}
 use Rattle.pf_session_lines.specs.Lines.{line_of}
-use Rattle.pf_session_views.specs.declared.showing.Showing.TheVariants as showing
-use Rattle.pf_session_views.specs.declared.showing.Showing.{Showing}
+use Rattle.pf_session_lines.specs.Showings.{Showings}
+use Rattle.pf_session_lines.specs.declared.showing.Showing.TheVariants as showing
+use Rattle.pf_session_lines.specs.declared.showing.Showing.{Showing}
 use Rattle.pf_session_lines.specs.declared.heard.Heard.{Heard}
 use Rattle.pf_session_lines.specs.declared.heard.Heard.TheVariants.{Nothing, Heading, Record, Shown, Undo, Save, Help, Quit, Bad}
 use Rattle.pf_journal.specs.Crash.{IsMixing, IsOpenable, IsWithFront}
@@ -22,7 +23,7 @@ use Rattle.pf_stream.specs.declared.dialogue.fault.SitFault.{SitFault}
 use Rattle.pf_stream.specs.declared.dialogue.fault.SitFault.TheVariants.{Deaf, Mute, NoMemory, Unkept}
 use Rattle.pf_session_turns.specs.Turns.{GoesOn, Saves, heard_of}
 use Rattle.pf_session.specs.Session.{SessionState}
-use Rattle.pf_session_laws.specs.Resumed.{HasRecords, IsBehind, IsSession}
+use Rattle.pf_session_laws.specs.Resumed.{anything, HasRecords, IsBehind, IsSession}
 use Rattle.pf_session_laws.specs.Crashed.{CrashesLeaveTold, IsKept, IsLeft, ToldAreKept}
 use Rattle.pf_session_laws.proofs.Files.{body, records_are, scripted_again, whole_all}
 use Rattle.pf_session_laws.proofs.Lists.{Parts, map_both, parts}
@@ -40,17 +41,17 @@ read_right [] b read = read
 read_right (r ∷ a) b read = read_right a b read.1
 
 -- lines after lines
-all_both : (lines more : List (List ℕ)) (a : SessionState) (text rest : List ℕ) (m b : SessionState) → AnswersAll answers a lines text m → AnswersAll answers m more rest b
-    → AnswersAll answers a (lines ++ more) (text ++ rest) b
+all_both : (lines more : List (List ℕ)) (a : SessionState) (text rest : List ℕ) (m b : SessionState) → AnswersAll (answers anything) a lines text m → AnswersAll (answers anything) m more rest b
+    → AnswersAll (answers anything) a (lines ++ more) (text ++ rest) b
 all_both [] more a text rest m b f g =
-    subst (λ (t : List ℕ). AnswersAll answers a more (t ++ rest) b) (sym f.0) (subst (λ (q : SessionState). AnswersAll answers q more rest b) f.1 g)
+    subst (λ (t : List ℕ). AnswersAll (answers anything) a more (t ++ rest) b) (sym f.0) (subst (λ (q : SessionState). AnswersAll (answers anything) q more rest b) f.1 g)
 all_both (line ∷ lines) more a text rest m b f g =
     (f.0, f.1 ++ rest, f.2, f.3, all_both lines more f.2 f.1 rest m b f.4 g, ap (λ (t : List ℕ). t ++ rest) f.5 ∙ append_assoc f.0 f.1 rest)
 
 behind_none : (s t : SessionState) → t ≡ s → IsBehind s t
 behind_none s t e = record { lines = []; text = []; answered = (refl, e) }
 
-behind_one : (s : SessionState) (line text : List ℕ) (t : SessionState) → answers s line text On t → IsBehind s t
+behind_one : (s : SessionState) (line text : List ℕ) (t : SessionState) → answers anything s line text On t → IsBehind s t
 behind_one s line text t h = record { lines = line ∷ []; text = text; answered = (text, [], t, h, (refl, refl), sym (append-nil text)) }
 
 behind_both : (a m b : SessionState) → IsBehind a m → IsBehind m b → IsBehind a b
@@ -73,7 +74,7 @@ saves_end saves s v file (showing.Bad words) a t w h = not_on h.0
 saves_end saves s v file (showing.Text text) a t w h = not_on h.2
 
 goes_end : {S : Type 0} (saves : S → List ℕ → List ℕ → Bool → S → Type 0) (s : SessionState) (v : S) (heard : Heard) (a : List ℕ)
-    (t : SessionState) (w : S) → GoesOn saves s v heard Ends a t w → t ≡ s
+    (t : SessionState) (w : S) → GoesOn anything saves s v heard Ends a t w → t ≡ s
 goes_end saves s v Nothing a t w h = not_on h.0
 goes_end saves s v Heading a t w h = not_on h.0
 goes_end saves s v (Record said line) a t w h = not_on h.0
@@ -84,13 +85,32 @@ goes_end saves s v Help a t w h = not_on h.0
 goes_end saves s v Quit a t w h = h.2
 goes_end saves s v (Bad field text) a t w h = not_on h.0
 
-answer_ends : (s : SessionState) (line text : List ℕ) (t : SessionState) → answers s line text Ends t → t ≡ s
+answer_ends : (s : SessionState) (line text : List ℕ) (t : SessionState) → answers anything s line text Ends t → t ≡ s
 answer_ends s line text t (inl h) = goes_end (λ v file bytes is_saved w. Unit {0}) s tt (heard_of s line) text t tt h
 answer_ends s line text t (inr h) = not_on h.0
 
-behind_answer : (s : SessionState) (line text : List ℕ) (going : Going) (t : SessionState) → answers s line text going t → IsBehind s t
+behind_answer : (s : SessionState) (line text : List ℕ) (going : Going) (t : SessionState) → answers anything s line text going t → IsBehind s t
 behind_answer s line text On t h = behind_one s line text t h
 behind_answer s line text Ends t h = behind_none s t (answer_ends s line text t h)
+
+-- what was answered, whatever was shown
+goes_anyhow : (shows : Showings) {S : Type 0} (saves : S → List ℕ → List ℕ → Bool → S → Type 0) (s : SessionState) (v : S) (heard : Heard) (g : Going)
+    (a : List ℕ) (t : SessionState) (w : S) → GoesOn shows saves s v heard g a t w → GoesOn anything saves s v heard g a t w
+goes_anyhow shows saves s v Nothing g a t w h = h
+goes_anyhow shows saves s v Heading g a t w h = h
+goes_anyhow shows saves s v (Record said line) g a t w h = h
+goes_anyhow shows saves s v (Shown wanted) g a t w h = (h.0, tt, h.2)
+goes_anyhow shows saves s v Undo g a t w h = h
+goes_anyhow shows saves s v (Save file) g a t w h = (h.0, tt, h.2)
+goes_anyhow shows saves s v Help g a t w h = h
+goes_anyhow shows saves s v Quit g a t w h = h
+goes_anyhow shows saves s v (Bad field text) g a t w h = h
+
+answers_anyhow : (shows : Showings) (s : SessionState) (line text : List ℕ) (going : Going) (t : SessionState) → answers shows s line text going t
+    → answers anything s line text going t
+answers_anyhow shows s line text going t (inl h) =
+    inl (goes_anyhow shows (λ v file bytes is_saved w. Unit {0}) s tt (heard_of s line) going text t tt h)
+answers_anyhow shows s line text going t (inr h) = inr h
 
 -- a session after some front of these records
 record HasFront (a : SessionState) (is : IsScripted a) (front : List (List ℕ)) : Type 0 where
@@ -140,13 +160,16 @@ waits a b is next new more rows script =
     ∙ sym (append_assoc (codes "plan,1\n") (lines_text false is.rows) (lines_text false new))
     ∙ ap (λ (t : List ℕ). t ++ lines_text false new) (sym is.script_is))
 
-went_one : {D : Type 0} (r : Recording SessionState D) (is : IsScripted r.machine) (line text : List ℕ) (going : Going) (t : Recording SessionState D)
-    → Answers answers (λ s. s.script) r line text going t → Went r is t
-went_one r is line text going t h =
-    let next = answer_next r.machine is line text going t.machine h.answered in by next.0 next.1
+went_one : (shows : Showings) {D : Type 0} (r : Recording SessionState D) (is : IsScripted r.machine) (line text : List ℕ) (going : Going) (t : Recording SessionState D)
+    → Answers (answers shows) (λ s. s.script) r line text going t → Went r is t
+went_one shows r is line text going t h =
+    let next = answer_next r.machine is line text going t.machine anyhow in by next.0 next.1
   where
+    anyhow : answers anything r.machine line text going t.machine
+    anyhow = answers_anyhow shows r.machine line text going t.machine h.answered
+
     behind : IsBehind r.machine t.machine
-    behind = behind_answer r.machine line text going t.machine h.answered
+    behind = behind_answer r.machine line text going t.machine anyhow
 
     by : (more : IsScripted t.machine) → (more.rows ≡ is.rows) ⊎ ((fields : List (List ℕ)) × (more.rows ≡ is.rows ++ fields ∷ [])) → Went r is t
     by more (inl same) =
@@ -213,28 +236,28 @@ went_both r m is f t g = record {
   fronts = fronts_both r m is f t g;
 }
 
-went_all : {D : Type 0} (lines : List (List ℕ)) (r : Recording SessionState D) (is : IsScripted r.machine) (text : List ℕ) (t : Recording SessionState D)
-    → AnswersAll (λ r line text going t. Answers answers (λ s. s.script) r line text going t) r lines text t → Went r is t
-went_all [] r is text t h = subst (λ (q : Recording SessionState _). Went r is q) (sym h.1) (went_none r is)
-went_all (line ∷ lines) r is text t h =
-    let f = went_one r is line h.0 On h.2 h.3 in
-    went_both r h.2 is f t (went_all lines h.2 f.scripted h.1 t h.4)
+went_all : (shows : Showings) {D : Type 0} (lines : List (List ℕ)) (r : Recording SessionState D) (is : IsScripted r.machine) (text : List ℕ) (t : Recording SessionState D)
+    → AnswersAll (λ r line text going t. Answers (answers shows) (λ s. s.script) r line text going t) r lines text t → Went r is t
+went_all shows [] r is text t h = subst (λ (q : Recording SessionState _). Went r is q) (sym h.1) (went_none r is)
+went_all shows (line ∷ lines) r is text t h =
+    let f = went_one shows r is line h.0 On h.2 h.3 in
+    went_both r h.2 is f t (went_all shows lines h.2 f.scripted h.1 t h.4)
 
-went_to : {D : Type 0} (lines : List (List ℕ)) (r : Recording SessionState D) (is : IsScripted r.machine) (text : List ℕ) (going : Going) (t : Recording SessionState D)
-    → AnswersTo (λ r line text going t. Answers answers (λ s. s.script) r line text going t) r lines text going t → Went r is t
-went_to lines r is text going t h =
-    let f = went_all h.done r is h.front h.mid h.answered in
-    went_both r h.mid is f t (went_one h.mid f.scripted h.last h.answer going t h.ended)
+went_to : (shows : Showings) {D : Type 0} (lines : List (List ℕ)) (r : Recording SessionState D) (is : IsScripted r.machine) (text : List ℕ) (going : Going) (t : Recording SessionState D)
+    → AnswersTo (λ r line text going t. Answers (answers shows) (λ s. s.script) r line text going t) r lines text going t → Went r is t
+went_to shows lines r is text going t h =
+    let f = went_all shows h.done r is h.front h.mid h.answered in
+    went_both r h.mid is f t (went_one shows h.mid f.scripted h.last h.answer going t h.ended)
 
-went_ahead : {D : Type 0} (ahead : List ℕ) (r : Recording SessionState D) (is : IsScripted r.machine) (text : List ℕ) (t : Recording SessionState D) (left : List ℕ)
-    → AnswersAhead (λ r line text going t. Answers answers (λ s. s.script) r line text going t) r ahead text On t left → Went r is t
-went_ahead ahead r is text t left (inl h) = went_all _ r is text t h.answered
-went_ahead ahead r is text t left (inr h) = went_to _ r is text On t h.to
+went_ahead : (shows : Showings) {D : Type 0} (ahead : List ℕ) (r : Recording SessionState D) (is : IsScripted r.machine) (text : List ℕ) (t : Recording SessionState D) (left : List ℕ)
+    → AnswersAhead (λ r line text going t. Answers (answers shows) (λ s. s.script) r line text going t) r ahead text On t left → Went r is t
+went_ahead shows ahead r is text t left (inl h) = went_all shows _ r is text t h.answered
+went_ahead shows ahead r is text t left (inr h) = went_to shows _ r is text On t h.to
 
-went_lines : {D : Type 0} (lines : List (List ℕ)) (r : Recording SessionState D) (is : IsScripted r.machine) (text : List ℕ) (going : Going) (t : Recording SessionState D)
-    → AnswersLines (λ r line text going t. Answers answers (λ s. s.script) r line text going t) r lines text going t → Went r is t
-went_lines lines r is text On t h = went_all lines r is text t h
-went_lines lines r is text Ends t h = went_to lines r is text Ends t h
+went_lines : (shows : Showings) {D : Type 0} (lines : List (List ℕ)) (r : Recording SessionState D) (is : IsScripted r.machine) (text : List ℕ) (going : Going) (t : Recording SessionState D)
+    → AnswersLines (λ r line text going t. Answers (answers shows) (λ s. s.script) r line text going t) r lines text going t → Went r is t
+went_lines shows lines r is text On t h = went_all shows lines r is text t h
+went_lines shows lines r is text Ends t h = went_to shows lines r is text Ends t h
 
 -- lines were answered, all of them maybe; of who answers nothing more is said
 record Held {D : Type 0} (r : Recording SessionState D) (is : IsScripted r.machine) (t : Recording SessionState D) : Type 0 where
@@ -253,10 +276,10 @@ held_stopped r is m t w (inl e) =
     record { mid = m; went = w; waiting_is = ap (λ q. q.waiting) e; file_is = ap (λ q. q.file) e; lost_is = ap (λ q. q.lost) e }
 held_stopped r is m t w (inr s) = record { mid = m; went = w; waiting_is = s.waiting_is; file_is = s.file_is; lost_is = s.lost_is }
 
-held_some : {D : Type 0} (lines : List (List ℕ)) (r : Recording SessionState D) (is : IsScripted r.machine) (text : List ℕ) (t : Recording SessionState D)
-    → SomeAnswered (λ r line text going t. Answers answers (λ s. s.script) r line text going t) (λ r t. StopsHere r t) r lines text t → Held r is t
-held_some lines r is text t (inl h) = held_stopped r is h.behind t (went_all h.done r is text h.behind h.answered) h.stopped
-held_some lines r is text t (inr h) = held r is t (went_to lines r is text h.0 t h.1)
+held_some : (shows : Showings) {D : Type 0} (lines : List (List ℕ)) (r : Recording SessionState D) (is : IsScripted r.machine) (text : List ℕ) (t : Recording SessionState D)
+    → SomeAnswered (λ r line text going t. Answers (answers shows) (λ s. s.script) r line text going t) (λ r t. StopsHere r t) r lines text t → Held r is t
+held_some shows lines r is text t (inl h) = held_stopped r is h.behind t (went_all shows h.done r is text h.behind h.answered) h.stopped
+held_some shows lines r is text t (inr h) = held r is t (went_to shows lines r is text h.0 t h.1)
 
 -- what the file has
 module _ {D : Type 0} (seen : D → List ℕ) (may_leave : D → List ℕ → Type 0) (is_clean is_mixing : D → Bool) where
@@ -356,39 +379,39 @@ module _ {D : Type 0} (seen : D → List ℕ) (may_leave : D → List ℕ → Ty
   -- Use: rounds.
   pub told_kept : {T : Type 0} (hears : T → List ℕ → T → Type 0) (is_deaf : T → T → Type 0) (tells is_mute : T → List ℕ → T → Type 0)
       → ToldAreKept seen may_leave is_clean is_mixing hears is_deaf tells is_mute
-  told_kept hears is_deaf tells is_mute [] r d line t e rest h kept = (
+  told_kept hears is_deaf tells is_mute shows [] r d line t e rest h kept = (
     subst (λ (q : Recording SessionState D). IsKept seen may_leave is_clean q) (sym h.0) kept,
     behind_none r.machine t.machine (ap (λ q. q.machine) h.0),
   )
-  told_kept hears is_deaf tells is_mute (round ∷ rounds) r d line t e rest h kept =
+  told_kept hears is_deaf tells is_mute shows (round ∷ rounds) r d line t e rest h kept =
       let is = session_scripted r.machine kept.session in
-      let first = round_kept r h.2.answered h.0 kept (went_ahead _ r is round.text h.2.answered round.left h.2.answers) h.2.keeps in
-      let more = told_kept hears is_deaf tells is_mute rounds h.0 h.1 _ t e rest h.3 first.0 in
+      let first = round_kept r h.2.answered h.0 kept (went_ahead shows _ r is round.text h.2.answered round.left h.2.answers) h.2.keeps in
+      let more = told_kept hears is_deaf tells is_mute shows rounds h.0 h.1 _ t e rest h.3 first.0 in
       (more.0, behind_both r.machine h.0.machine t.machine first.1 more.1)
 
   last_left : {T : Type 0} (hears : T → List ℕ → T → Type 0) (is_deaf : T → T → Type 0) (tells is_mute : T → List ℕ → T → Type 0)
-      (ending : Result Going SitFault) (r : Recording SessionState D) (d : T) (line : List ℕ) (t : Recording SessionState D) (e : T)
+      (shows : Showings) (ending : Result Going SitFault) (r : Recording SessionState D) (d : T) (line : List ℕ) (t : Recording SessionState D) (e : T)
       → IsKept seen may_leave is_clean r
-      → LastRound (recorded_talk answers (λ s. s.script) seen may_leave is_clean is_mixing hears is_deaf tells is_mute) r d line ending t e
+      → LastRound (recorded_talk (answers shows) (λ s. s.script) seen may_leave is_clean is_mixing hears is_deaf tells is_mute) r d line ending t e
       → (file : List ℕ) → may_leave t.file file → IsLeft is_mixing r.machine file
-  last_left hears is_deaf tells is_mute (Ok going) r d line t e kept h file leaves =
+  last_left hears is_deaf tells is_mute shows (Ok going) r d line t e kept h file leaves =
       let is = session_scripted r.machine kept.session in
-      left_kept r h.answered t kept.session (held r is h.answered (went_lines _ r is h.text going h.answered h.answers)) kept.records kept.settled h.keeps file leaves
-  last_left hears is_deaf tells is_mute (Err Deaf) r d line t e kept h file leaves = left_same r t h.0 kept file leaves
-  last_left hears is_deaf tells is_mute (Err Mute) r d line t e kept h file leaves =
+      left_kept r h.answered t kept.session (held r is h.answered (went_lines shows _ r is h.text going h.answered h.answers)) kept.records kept.settled h.keeps file leaves
+  last_left hears is_deaf tells is_mute shows (Err Deaf) r d line t e kept h file leaves = left_same r t h.0 kept file leaves
+  last_left hears is_deaf tells is_mute shows (Err Mute) r d line t e kept h file leaves =
       let is = session_scripted r.machine kept.session in
-      left_kept r h.answered t kept.session (held_some _ r is h.text h.answered h.answers) kept.records kept.settled h.went.0 file leaves
-  last_left hears is_deaf tells is_mute (Err Unkept) r d line t e kept h file leaves =
+      left_kept r h.answered t kept.session (held_some shows _ r is h.text h.answered h.answers) kept.records kept.settled h.went.0 file leaves
+  last_left hears is_deaf tells is_mute shows (Err Unkept) r d line t e kept h file leaves =
       let is = session_scripted r.machine kept.session in
-      left_lost r h.answered t kept (held_some _ r is h.text h.answered h.answers) h.went.0 file leaves
-  last_left hears is_deaf tells is_mute (Err NoMemory) r d line t e kept (inl h) file leaves =
+      left_lost r h.answered t kept (held_some shows _ r is h.text h.answered h.answers) h.went.0 file leaves
+  last_left hears is_deaf tells is_mute shows (Err NoMemory) r d line t e kept (inl h) file leaves =
       let is = session_scripted r.machine kept.session in
-      left_kept r h.answered t kept.session (held_some _ r is h.text h.answered h.answers) kept.records kept.settled h.went.0 file leaves
-  last_left hears is_deaf tells is_mute (Err NoMemory) r d line t e kept (inr h) file leaves = left_same r t h.0 kept file leaves
+      left_kept r h.answered t kept.session (held_some shows _ r is h.text h.answered h.answers) kept.records kept.settled h.went.0 file leaves
+  last_left hears is_deaf tells is_mute shows (Err NoMemory) r d line t e kept (inr h) file leaves = left_same r t h.0 kept file leaves
 
   -- Use: a whole sitting.
   pub crash_leaves : {T : Type 0} (hears : T → List ℕ → T → Type 0) (is_deaf : T → T → Type 0) (tells is_mute : T → List ℕ → T → Type 0)
       → CrashesLeaveTold seen may_leave is_clean is_mixing hears is_deaf tells is_mute
-  crash_leaves hears is_deaf tells is_mute r d ending t e sat kept file leaves =
-      let told = told_kept hears is_deaf tells is_mute sat.rounds r d [] sat.behind sat.told sat.rest sat.sits kept in
-      last_left hears is_deaf tells is_mute ending sat.behind sat.told sat.rest t e told.0 sat.last file leaves
+  crash_leaves hears is_deaf tells is_mute shows r d ending t e sat kept file leaves =
+      let told = told_kept hears is_deaf tells is_mute shows sat.rounds r d [] sat.behind sat.told sat.rest sat.sits kept in
+      last_left hears is_deaf tells is_mute shows ending sat.behind sat.told sat.rest t e told.0 sat.last file leaves

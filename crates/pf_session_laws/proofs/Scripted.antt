@@ -8,8 +8,8 @@ use Rattle.pf_session_lines.specs.Faults.{too_long_text}
 use Rattle.pf_session_lines.specs.Heard.{heard, heard_fields, heard_heading, heard_if, heard_record, heard_word}
 use Rattle.pf_session_lines.specs.Lines.{fields_in, line_of}
 use Rattle.pf_session_lines.specs.Words.{word_at}
-use Rattle.pf_session_views.specs.declared.showing.Showing.{Showing}
-use Rattle.pf_session_views.specs.declared.showing.Showing.TheVariants as showing
+use Rattle.pf_session_lines.specs.declared.showing.Showing.{Showing}
+use Rattle.pf_session_lines.specs.declared.showing.Showing.TheVariants as showing
 use Rattle.pf_session_lines.specs.declared.asked.Asked.{Asked}
 use Rattle.pf_session_lines.specs.declared.asked.Asked.TheVariants as asks
 use Rattle.pf_session_lines.specs.declared.fault.LineFault.{LineFault}
@@ -40,7 +40,7 @@ use Rattle.pf_script.specs.declared.plan.fault.RecordFault.{RecordFault}
 use Rattle.pf_script.specs.declared.plan.said.Said.{Said}
 use Rattle.pf_script.specs.declared.plan.said.Said.TheVariants.{Asks}
 use Rattle.pf_script.specs.declared.plan.state.Progress.{Progress}
-use Rattle.pf_session_laws.specs.Resumed.{IsBegun, IsBehind, IsSession}
+use Rattle.pf_session_laws.specs.Resumed.{anything, IsBegun, IsBehind, IsSession}
 use Rattle.pf_session_laws.proofs.Reading.{AreRead, IsRead, lines_text}
 use Rattle.pf_session_laws.proofs.Records.{said_read}
 use Rattle.pf_session_laws.proofs.Sound.{IsSound, ShortMade, back_short, made_behind_record, newest_short, opened_behind, sound_behind, sound_start, undone_short}
@@ -238,7 +238,7 @@ saves_next saves s is v file (showing.Bad words) g a t w h = same_next s is (beh
 saves_next saves s is v file (showing.Text text) g a t w h = stays s is t h.4
 
 goes_next : {S : Type 0} (saves : S → List ℕ → List ℕ → Bool → S → Type 0) (s : SessionState) (is : IsScripted s) (v : S) (heard : Heard) (g : Going)
-    (a : List ℕ) (t : SessionState) (w : S) → IsSaid s.course.progress heard → GoesOn saves s v heard g a t w → IsNext s is t
+    (a : List ℕ) (t : SessionState) (w : S) → IsSaid s.course.progress heard → GoesOn anything saves s v heard g a t w → IsNext s is t
 goes_next saves s is v Nothing g a t w said h = stays s is t h.2
 goes_next saves s is v Heading g a t w said h = same_next s is (record s { is_first = false }) t h.2 (heading_next s is)
 goes_next saves s is v (Record what line) g a t w said h =
@@ -252,12 +252,12 @@ goes_next saves s is v Quit g a t w said h = stays s is t h.2
 goes_next saves s is v (Bad field text) g a t w said h = same_next s is (behind_bad s) t h.2 (bad_next s is)
 
 -- Use: after one line.
-pub answer_next : (s : SessionState) (is : IsScripted s) (line text : List ℕ) (going : Going) (t : SessionState) → answers s line text going t → IsNext s is t
+pub answer_next : (s : SessionState) (is : IsScripted s) (line text : List ℕ) (going : Going) (t : SessionState) → answers anything s line text going t → IsNext s is t
 answer_next s is line text going t (inl h) =
     goes_next (λ v file bytes is_saved w. Unit {0}) s is tt (heard_of s line) going text t tt (in_said s (line_in s.manner.whole line)) h
 answer_next s is line text going t (inr h) = stays s is t h.2
 
-answers_scripted : (lines : List (List ℕ)) (s : SessionState) (text : List ℕ) (t : SessionState) → AnswersAll answers s lines text t → IsScripted s → IsScripted t
+answers_scripted : (lines : List (List ℕ)) (s : SessionState) (text : List ℕ) (t : SessionState) → AnswersAll (answers anything) s lines text t → IsScripted s → IsScripted t
 answers_scripted [] s text t h is = subst (λ (q : SessionState). IsScripted q) (sym h.1) is
 answers_scripted (line ∷ lines) s text t h is =
     answers_scripted lines h.2 h.1 t h.4 (answer_next s is line h.0 On h.2 h.3).0

@@ -9,6 +9,7 @@ use Rattle.pf_journal.specs.Recorder.Recording.{Recording}
 use Rattle.pf_journal.specs.Recorder.Told.{IsSettled, recorded_talk}
 use Rattle.pf_answers.specs.declared.manner.Manner.{Manner}
 use Rattle.pf_session.specs.Session.{SessionState}
+use Rattle.pf_session_lines.specs.Showings.{Showings}
 use Rattle.pf_session_turns.specs.Sitters.{answers}
 use Rattle.pf_stream.specs.Dialogue.Sits.{HasSat, Round, Sits}
 use Rattle.pf_stream.specs.declared.dialogue.answers.Going.{Going}
@@ -32,12 +33,12 @@ BegunAreKept {D} seen may_leave is_clean =
     → Begins seen may_leave is_clean manner script file bytes recorder sizes → IsTrue (is_clean file) → IsSessionFile bytes
     → IsKept seen may_leave is_clean recorder
 
--- whenever more is asked for in a sitting, the session that was told so far is kept
+-- whenever more is asked for in a sitting, whoever shows what is wanted there, the session that was told so far is kept
 abbrev pub ToldAreKept : {D T : Type 0} → (D → List ℕ) → (D → List ℕ → Type 0) → (D → Bool) → (D → Bool) → (T → List ℕ → T → Type 0) → (T → T → Type 0)
     → (T → List ℕ → T → Type 0) → (T → List ℕ → T → Type 0) → Type 0
 ToldAreKept {D} {T} seen may_leave is_clean is_mixing hears is_deaf tells is_mute =
-    (rounds : List Round) (r : Recording SessionState D) (d : T) (line : List ℕ) (t : Recording SessionState D) (e : T) (rest : List ℕ)
-    → Sits (recorded_talk answers (λ s. s.script) seen may_leave is_clean is_mixing hears is_deaf tells is_mute) rounds r d line t e rest
+    (shows : Showings) (rounds : List Round) (r : Recording SessionState D) (d : T) (line : List ℕ) (t : Recording SessionState D) (e : T) (rest : List ℕ)
+    → Sits (recorded_talk (answers shows) (λ s. s.script) seen may_leave is_clean is_mixing hears is_deaf tells is_mute) rounds r d line t e rest
     → IsKept seen may_leave is_clean r → IsKept seen may_leave is_clean t × IsBehind r.machine t.machine
 
 -- a file has the records of a session that was told, or of one after it that answered some more lines; it opens, where the disks are
@@ -54,6 +55,6 @@ pub record IsLeft {D : Type 0} (is_mixing : D → Bool) (told : SessionState) (f
 abbrev pub CrashesLeaveTold : {D T : Type 0} → (D → List ℕ) → (D → List ℕ → Type 0) → (D → Bool) → (D → Bool) → (T → List ℕ → T → Type 0) → (T → T → Type 0)
     → (T → List ℕ → T → Type 0) → (T → List ℕ → T → Type 0) → Type 0
 CrashesLeaveTold {D} {T} seen may_leave is_clean is_mixing hears is_deaf tells is_mute =
-    (r : Recording SessionState D) (d : T) (ending : Result Going SitFault) (t : Recording SessionState D) (e : T)
-    (sat : HasSat (recorded_talk answers (λ s. s.script) seen may_leave is_clean is_mixing hears is_deaf tells is_mute) r d ending t e)
+    (shows : Showings) (r : Recording SessionState D) (d : T) (ending : Result Going SitFault) (t : Recording SessionState D) (e : T)
+    (sat : HasSat (recorded_talk (answers shows) (λ s. s.script) seen may_leave is_clean is_mixing hears is_deaf tells is_mute) r d ending t e)
     → IsKept seen may_leave is_clean r → (file : List ℕ) → may_leave t.file file → IsLeft is_mixing sat.behind.machine file

@@ -1,5 +1,5 @@
 -- Sessions that begin again on what an earlier one left.
-use Rattle.std.specs.Prelude.{ℕ, ◌≡◌, ◌≢◌, ◌⊎◌, true, false, not, Option, None, Result, Ok, List, []}
+use Rattle.std.specs.Prelude.{ℕ, ⊤, ◌≡◌, ◌≢◌, ◌⊎◌, true, false, not, Option, None, Result, Ok, List, []}
 use Rattle.pf_journal.specs.Lines.{records_of, state_of}
 use Rattle.pf_journal.specs.declared.state.State.TheVariants.{Other}
 use Rattle.pf_journal_session.specs.Journaled.{anew, session_on}
@@ -7,6 +7,7 @@ use Rattle.pf_journal.specs.Recorder.Recording.{records_in}
 use Rattle.pf_answers.specs.declared.manner.Manner.{Manner}
 use Rattle.pf_session_turns.specs.Opening.{opened}
 use Rattle.pf_session.specs.Session.{SessionState}
+use Rattle.pf_session_lines.specs.Showings.{Showings}
 use Rattle.pf_session_turns.specs.Sitters.{answers}
 use Rattle.pf_stream.specs.Dialogue.Answered.{AnswersAll}
 
@@ -19,11 +20,15 @@ pub record IsBegun (s : SessionState) : Type 0 where
   pub begun : session_on manner script bytes ≡ Ok session
   pub is : (s ≡ session) ⊎ (s ≡ anew session)
 
--- a session that answered some lines
+-- whatever is shown
+abbrev pub anything : Showings
+anything wanted script made = ⊤
+
+-- a session that answered some lines, whatever it showed
 pub record IsBehind (before s : SessionState) : Type 0 where
   pub lines : List (List ℕ)
   pub text : List ℕ
-  pub answered : AnswersAll answers before lines text s
+  pub answered : AnswersAll (answers anything) before lines text s
 
 -- a session that began, and answered some lines
 pub record IsSession (s : SessionState) : Type 0 where

@@ -2,5 +2,6 @@ pub mod Asked
 pub mod Faults
 pub mod Heard
 pub mod Lines
+pub mod Showings
 pub mod Values
 pub mod Words

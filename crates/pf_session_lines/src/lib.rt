@@ -10,5 +10,7 @@ pub mod hear;
 pub mod heard;
 pub mod reason;
 pub mod row_text;
+pub mod showing;
+pub mod shows;
 pub mod wanted;
 pub mod word;

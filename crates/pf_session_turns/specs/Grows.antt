@@ -9,9 +9,10 @@ use Rattle.pf_session_lines.specs.Asked.{asked_at}
 use Rattle.pf_session_lines.specs.Faults.{too_long_text}
 use Rattle.pf_session_lines.specs.Heard.{heard, heard_fields, heard_heading, heard_if, heard_record, heard_word}
 use Rattle.pf_session_lines.specs.Lines.{fields_in, line_of}
+use Rattle.pf_session_lines.specs.Showings.{Showings}
 use Rattle.pf_session_lines.specs.Words.{word_at}
-use Rattle.pf_session_views.specs.declared.showing.Showing.{Showing}
-use Rattle.pf_session_views.specs.declared.showing.Showing.TheVariants as showing
+use Rattle.pf_session_lines.specs.declared.showing.Showing.{Showing}
+use Rattle.pf_session_lines.specs.declared.showing.Showing.TheVariants as showing
 use Rattle.pf_session_lines.specs.declared.asked.Asked.{Asked}
 use Rattle.pf_session_lines.specs.declared.asked.Asked.TheVariants as asks
 use Rattle.pf_session_lines.specs.declared.fault.LineFault.{LineFault}
@@ -121,20 +122,20 @@ saves_grows : {S : Type 0} (saves : S → List ℕ → List ℕ → Bool → S �
 saves_grows saves s v file (showing.Bad words) g a t w h = stays s t (ap (λ q. q.script) h.2)
 saves_grows saves s v file (showing.Text text) g a t w h = stays s t (ap (λ q. q.script) h.4)
 
-goes_grows : {S : Type 0} (saves : S → List ℕ → List ℕ → Bool → S → Type 0) (s : SessionState) (v : S) (heard : Heard) (g : Going) (a : List ℕ)
-    (t : SessionState) (w : S) → IsLined heard → GoesOn saves s v heard g a t w → GrowsTo s.script t.script
-goes_grows saves s v Nothing g a t w is h = stays s t (ap (λ q. q.script) h.2)
-goes_grows saves s v Heading g a t w is h = stays s t (ap (λ q. q.script) h.2)
-goes_grows saves s v (Record said line) g a t w is h = gets s t line is (ap (λ q. q.script) h.2)
-goes_grows saves s v (Shown wanted) g a t w is h = showing_grows s t h.0 h.2.2
-goes_grows saves s v Undo g a t w is h = undo_grows s t s.course.desk (newest_of s.made) h.2
-goes_grows saves s v (Save file) g a t w is h = saves_grows saves s v file h.0 g a t w h.2
-goes_grows saves s v Help g a t w is h = stays s t (ap (λ q. q.script) h.2)
-goes_grows saves s v Quit g a t w is h = stays s t (ap (λ q. q.script) h.2)
-goes_grows saves s v (Bad field text) g a t w is h = stays s t (ap (λ q. q.script) h.2)
+goes_grows : (shows : Showings) {S : Type 0} (saves : S → List ℕ → List ℕ → Bool → S → Type 0) (s : SessionState) (v : S) (heard : Heard) (g : Going) (a : List ℕ)
+    (t : SessionState) (w : S) → IsLined heard → GoesOn shows saves s v heard g a t w → GrowsTo s.script t.script
+goes_grows shows saves s v Nothing g a t w is h = stays s t (ap (λ q. q.script) h.2)
+goes_grows shows saves s v Heading g a t w is h = stays s t (ap (λ q. q.script) h.2)
+goes_grows shows saves s v (Record said line) g a t w is h = gets s t line is (ap (λ q. q.script) h.2)
+goes_grows shows saves s v (Shown wanted) g a t w is h = showing_grows s t h.0 h.2.2
+goes_grows shows saves s v Undo g a t w is h = undo_grows s t s.course.desk (newest_of s.made) h.2
+goes_grows shows saves s v (Save file) g a t w is h = saves_grows saves s v file h.0 g a t w h.2
+goes_grows shows saves s v Help g a t w is h = stays s t (ap (λ q. q.script) h.2)
+goes_grows shows saves s v Quit g a t w is h = stays s t (ap (λ q. q.script) h.2)
+goes_grows shows saves s v (Bad field text) g a t w is h = stays s t (ap (λ q. q.script) h.2)
 
 -- Use: the law of a sitter's script.
-pub grows : (s : SessionState) (line text : List ℕ) (going : Going) (t : SessionState) → answers s line text going t → GrowsTo s.script t.script
-grows s line text going t (inl h) =
-    goes_grows (λ v file bytes is_saved w. Unit {0}) s tt (heard_of s line) going text t tt (in_lined s (line_in s.manner.whole line)) h
-grows s line text going t (inr h) = stays s t (ap (λ q. q.script) h.2)
+pub grows : (shows : Showings) (s : SessionState) (line text : List ℕ) (going : Going) (t : SessionState) → answers shows s line text going t → GrowsTo s.script t.script
+grows shows s line text going t (inl h) =
+    goes_grows shows (λ v file bytes is_saved w. Unit {0}) s tt (heard_of s line) going text t tt (in_lined s (line_in s.manner.whole line)) h
+grows shows s line text going t (inr h) = stays s t (ap (λ q. q.script) h.2)

@@ -1,12 +1,13 @@
 -- How a sitter answers.
 use Rattle.std.specs.Prelude.{ℕ, ⊤, ◌≡◌, List}
 use Rattle.pf_session.specs.Session.{SessionState}
+use Rattle.pf_session_lines.specs.Showings.{Showings}
 use Rattle.pf_stream.specs.declared.dialogue.answers.Going.{Going}
 use Rattle.pf_session_turns.specs.Turns.{AnswersLine}
 
 -- a line is answered as its session answers it; no contract says which files could be written
-abbrev pub answers : SessionState → List ℕ → List ℕ → Going → SessionState → Type 0
-answers s line text going t = AnswersLine {S = Unit {0}} (λ v file bytes is_saved w. Unit {0}) s tt line going text t tt
+abbrev pub answers : Showings → SessionState → List ℕ → List ℕ → Going → SessionState → Type 0
+answers shows s line text going t = AnswersLine shows {S = Unit {0}} (λ v file bytes is_saved w. Unit {0}) s tt line going text t tt
 
 -- nothing is said of a session that could not answer a line
 abbrev pub stops : SessionState → SessionState → Type 0

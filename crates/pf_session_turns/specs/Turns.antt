@@ -12,9 +12,9 @@ use Rattle.pf_text.specs.FileName.{file_text}
 use Rattle.pf_session.specs.Answers.{said_answer, undo_answer}
 use Rattle.pf_session.specs.Session.{SessionState, behind_bad, behind_record, behind_undo, newest_of}
 use Rattle.pf_session_lines.specs.Values.{is_value}
-use Rattle.pf_session_views.specs.Shown.{Shows}
-use Rattle.pf_session_views.specs.declared.showing.Showing.{Showing}
-use Rattle.pf_session_views.specs.declared.showing.Showing.TheVariants as showing
+use Rattle.pf_session_lines.specs.Showings.{Showings}
+use Rattle.pf_session_lines.specs.declared.showing.Showing.{Showing}
+use Rattle.pf_session_lines.specs.declared.showing.Showing.TheVariants as showing
 use Rattle.pf_session_lines.specs.declared.wanted.Wanted.{Wanted}
 use Rattle.pf_session_lines.specs.declared.wanted.Wanted.TheVariants.{Report}
 use Rattle.pf_stream.specs.declared.dialogue.answers.Going.{Going}
@@ -45,20 +45,20 @@ Saves saves s v file (showing.Bad words) g a t w = Goes On (bad_text s.manner.js
 Saves saves s v file (showing.Text text) g a t w =
     (is_saved : Bool) × saves v file text.items is_saved w × (g ≡ On) × (a ≡ saved_text s.manner.json file is_saved) × (t ≡ s)
 
--- a session goes on so with what it heard: whether more is wanted, the answer, and what is after it. What is shown is what its script
--- shows, and what is saved is what it shows as a script
-abbrev pub GoesOn : {S : Type 0} → (S → List ℕ → List ℕ → Bool → S → Type 0) → SessionState → S → Heard → Going → List ℕ → SessionState → S → Type 0
-GoesOn saves s v Nothing g a t w = Goes On [] s v g a t w
-GoesOn saves s v Heading g a t w = Goes On (taken_text s.manner.json) (record s { is_first = false }) v g a t w
-GoesOn saves s v (Record said line) g a t w = Goes On (said_answer s.manner s.course said) (behind_record s said line) v g a t w
-GoesOn saves s v (Shown wanted) g a t w =
-    (made : Showing) × Shows wanted s.script made × Goes On (showing_answer s.manner.json wanted made) (behind_showing s made) v g a t w
-GoesOn saves s v Undo g a t w =
+-- a session goes on so with what it heard: whether more is wanted, the answer, and what is after it. What is shown is what `shows` says of
+-- its script, and what is saved is what it shows as a script
+abbrev pub GoesOn : Showings → {S : Type 0} → (S → List ℕ → List ℕ → Bool → S → Type 0) → SessionState → S → Heard → Going → List ℕ → SessionState → S → Type 0
+GoesOn shows saves s v Nothing g a t w = Goes On [] s v g a t w
+GoesOn shows saves s v Heading g a t w = Goes On (taken_text s.manner.json) (record s { is_first = false }) v g a t w
+GoesOn shows saves s v (Record said line) g a t w = Goes On (said_answer s.manner s.course said) (behind_record s said line) v g a t w
+GoesOn shows saves s v (Shown wanted) g a t w =
+    (made : Showing) × shows wanted s.script made × Goes On (showing_answer s.manner.json wanted made) (behind_showing s made) v g a t w
+GoesOn shows saves s v Undo g a t w =
     Goes On (undo_answer s.manner s.course.progress.names s.course.desk (newest_of s.made)) (behind_undo s) v g a t w
-GoesOn saves s v (Save file) g a t w = (made : Showing) × Shows (Report Script) s.script made × Saves saves s v file made g a t w
-GoesOn saves s v Help g a t w = Goes On (shown_text s.manner.json false help_text) s v g a t w
-GoesOn saves s v Quit g a t w = Goes Ends [] s v g a t w
-GoesOn saves s v (Bad field text) g a t w = Goes On (bad_text s.manner.json field text) (behind_bad s) v g a t w
+GoesOn shows saves s v (Save file) g a t w = (made : Showing) × shows (Report Script) s.script made × Saves saves s v file made g a t w
+GoesOn shows saves s v Help g a t w = Goes On (shown_text s.manner.json false help_text) s v g a t w
+GoesOn shows saves s v Quit g a t w = Goes Ends [] s v g a t w
+GoesOn shows saves s v (Bad field text) g a t w = Goes On (bad_text s.manner.json field text) (behind_bad s) v g a t w
 
 -- of a last line that lacks its line feed, where whole lines are wanted
 abbrev pub no_end_text : List ℕ
@@ -78,6 +78,6 @@ abbrev pub heard_of : SessionState → List ℕ → Heard
 heard_of s line = heard_in s (line_in s.manner.whole line)
 
 -- a line was answered: as what it is, or memory was refused, which is told and changes nothing
-abbrev pub AnswersLine : {S : Type 0} → (S → List ℕ → List ℕ → Bool → S → Type 0) → SessionState → S → List ℕ → Going → List ℕ → SessionState → S → Type 0
-AnswersLine saves s v line g a t w =
-    GoesOn saves s v (heard_of s line) g a t w ⊎ Goes On (told_text s.manner.json (codes "out of memory")) s v g a t w
+abbrev pub AnswersLine : Showings → {S : Type 0} → (S → List ℕ → List ℕ → Bool → S → Type 0) → SessionState → S → List ℕ → Going → List ℕ → SessionState → S → Type 0
+AnswersLine shows saves s v line g a t w =
+    GoesOn shows saves s v (heard_of s line) g a t w ⊎ Goes On (told_text s.manner.json (codes "out of memory")) s v g a t w

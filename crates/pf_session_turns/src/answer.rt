@@ -7,6 +7,7 @@ use crate::saver::Saver;
 use crate::turn::turn;
 use pf_session::session::Session;
 use pf_session::stop::Stop;
+use pf_session_lines::shows::Shows;
 use pf_stream::dialogue::answers::{Going, Stopped};
 
 /// Answers a line of a session as it came: with its line feed, which the last one may lack. Appends the text of the answer. Where
@@ -16,17 +17,18 @@ use pf_stream::dialogue::answers::{Going, Stopped};
 ///
 /// Where memory is refused after the first of several steps, or for that answer too: the text is as before, and nothing is promised of
 /// the session any more.
-pub fn answer<S: Saver>(
+pub fn answer<S: Saver, V: Shows>(
     session: &mut Session,
     saver: &mut S,
+    views: &V,
     line: &[u8],
     text: &mut Vec<u8>,
 ) -> Result<Going, Stopped>
-    ensures ok { IfOk result (λ going. (answer : List ℕ) × AnswersLine S.saves session.old saver.old line.now going answer session.new saver.new
+    ensures ok { IfOk result (λ going. (answer : List ℕ) × AnswersLine V.shows S.saves session.old saver.old line.now going answer session.new saver.new
         × (text.new.items ≡ text.old.items ++ answer)) }
     ensures err { OnErr result (text.new.items ≡ text.old.items) }
 {
-    match turn(session, saver, line, text) {
+    match turn(session, saver, views, line, text) {
         Ok(going) => Ok(going),
         Err(Stop::NoMemory) => tell_refused(session, text),
         Err(Stop::Lost) => Err(Stopped),

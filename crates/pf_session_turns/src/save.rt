@@ -1,6 +1,5 @@
 ghost use Rattle.std.specs.Prelude.{◌≡◌, ◌++◌, Bool, ℕ, List, true, false, IfOk, OnErr, OnOk};
-ghost use Rattle.pf_session_views.specs.Shown.{Shows};
-ghost use Rattle.pf_session_views.specs.declared.showing.Showing.{Showing};
+ghost use Rattle.pf_session_lines.specs.declared.showing.Showing.{Showing};
 ghost use Rattle.pf_session_lines.specs.declared.wanted.Wanted.TheVariants.{Report};
 ghost use Rattle.pf_vocabulary.specs.declared.options.format.Format.TheVariants.{Script};
 ghost use Rattle.pf_stream.specs.declared.dialogue.answers.Going.TheVariants.{On};
@@ -9,9 +8,9 @@ ghost use Rattle.pf_session_turns.specs.Turns.{Saves, saved_text};
 use crate::saver::Saver;
 use pf_answers::telling::{push_told, taken};
 use pf_session::session::Session;
+use pf_session_lines::showing::Showing;
+use pf_session_lines::shows::Shows;
 use pf_session_lines::wanted::Wanted;
-use pf_session_views::show::show;
-use pf_session_views::showing::Showing;
 use pf_text::file_name::push_file;
 use pf_vocabulary::options::format::Format;
 use std::alloc::{AllocError, Global};
@@ -21,20 +20,21 @@ use std::alloc::{AllocError, Global};
 /// # Errors
 ///
 /// Where memory is refused: nothing has changed, and nothing was written.
-pub(crate) fn save_script<S: Saver>(
+pub(crate) fn save_script<S: Saver, V: Shows>(
     session: &mut Session,
     saver: &mut S,
+    views: &V,
     file: &[u8],
     text: &mut Vec<u8>,
 ) -> Result<(), AllocError>
-    ensures ok { OnOk result ((made : Showing) × (answer : List ℕ) × Shows (Report Script) session.old.script made
+    ensures ok { OnOk result ((made : Showing) × (answer : List ℕ) × V.shows (Report Script) session.old.script made
         × Saves S.saves session.old saver.old file.now made On answer session.new saver.new × (text.new.items ≡ text.old.items ++ answer)) }
     ensures err { OnErr result (session.new ≡ session.old) }
     ensures saver { OnErr result (saver.new ≡ saver.old) }
     ensures same { OnErr result (text.new.items ≡ text.old.items) }
 {
     let wanted = Wanted::Report(Format::Script);
-    match show(session.alloc(), session.script(), &wanted)? {
+    match views.show(session.alloc(), session.script(), &wanted)? {
         Showing::Text(script) => {
             let alloc = session.alloc();
             let json = session.manner().json;

@@ -1,18 +1,20 @@
 use crate::answer::answer;
 use crate::saver::Saver;
 use pf_session::session::Session;
+use pf_session_lines::shows::Shows;
 use pf_stream::dialogue::answers::{Answers, Going, Stopped, Unkept};
 use pf_stream::dialogue::scripted::Scripted;
 use std::marker::Model;
 
-/// A session that answers lines, and who writes files for it. Contracts see the session.
+/// A session that answers lines, who writes files for it, and who shows what is wanted of its script. Contracts see the session.
 #[derive(Drop)]
-pub struct Sitter<S> {
+pub struct Sitter<S, V> {
     session: Session,
     saver: S,
+    views: V,
 }
 
-impl<S> Model for Sitter<S> {
+impl<S, V> Model for Sitter<S, V> {
     ghost use Rattle.pf_session.specs.Session.{SessionState};
 
     ghost Value = { SessionState };
@@ -20,14 +22,18 @@ impl<S> Model for Sitter<S> {
     ghost view = { λ s. s.session };
 }
 
-impl<S: Saver> Sitter<S> {
+impl<S: Saver, V: Shows> Sitter<S, V> {
     ghost use Rattle.std.specs.Prelude.{◌≡◌};
 
-    /// A session, and who writes its files.
-    pub fn new(session: Session, saver: S) -> Self
+    /// A session, who writes its files, and who shows its script.
+    pub fn new(session: Session, saver: S, views: V) -> Self
         ensures { result ≡ session }
     {
-        Sitter { session, saver }
+        Sitter {
+            session,
+            saver,
+            views,
+        }
     }
 
     /// Whether a line was bad.
@@ -38,10 +44,10 @@ impl<S: Saver> Sitter<S> {
     }
 }
 
-impl<S: Saver> Answers for Sitter<S> {
+impl<S: Saver, V: Shows> Answers for Sitter<S, V> {
     ghost use Rattle.pf_session_turns.specs.Sitters.{answers, keeps, loses, stops};
 
-    ghost answers = { answers };
+    ghost answers = { answers V.shows };
 
     ghost stops = { stops };
 
@@ -50,7 +56,7 @@ impl<S: Saver> Answers for Sitter<S> {
     ghost loses = { loses };
 
     fn take(&mut self, line: &[u8], text: &mut Vec<u8>) -> Result<Going, Stopped> {
-        answer(&mut self.session, &mut self.saver, line, text)
+        answer(&mut self.session, &mut self.saver, &self.views, line, text)
     }
 
     fn keep(&mut self) -> Result<(), Unkept> {
@@ -58,7 +64,7 @@ impl<S: Saver> Answers for Sitter<S> {
     }
 }
 
-impl<S: Saver> Scripted for Sitter<S> {
+impl<S: Saver, V: Shows> Scripted for Sitter<S, V> {
     ghost use Rattle.pf_session_turns.specs.Grows.{grows};
 
     ghost script = { λ s. s.script };
@@ -67,5 +73,5 @@ impl<S: Saver> Scripted for Sitter<S> {
         self.session.script()
     }
 
-    ghost grows = { grows };
+    ghost grows = { grows V.shows };
 }

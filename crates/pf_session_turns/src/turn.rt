@@ -13,6 +13,7 @@ use pf_session::stop::Stop;
 use pf_session_lines::hear::hear;
 use pf_session_lines::heard::Heard;
 use pf_session_lines::reason::help;
+use pf_session_lines::shows::Shows;
 use pf_stream::dialogue::answers::Going;
 use std::alloc::AllocError;
 
@@ -21,13 +22,14 @@ use std::alloc::AllocError;
 /// # Errors
 ///
 /// `NoMemory`: nothing has changed. `Lost`: nothing is promised of the session any more. The text and who saves are as before at both.
-pub(crate) fn turn<S: Saver>(
+pub(crate) fn turn<S: Saver, V: Shows>(
     session: &mut Session,
     saver: &mut S,
+    views: &V,
     line: &[u8],
     text: &mut Vec<u8>,
 ) -> Result<Going, Stop>
-    ensures ok { IfOk result (λ going. (answer : List ℕ) × GoesOn S.saves session.old saver.old (heard_of session.old line.now) going answer session.new saver.new
+    ensures ok { IfOk result (λ going. (answer : List ℕ) × GoesOn V.shows S.saves session.old saver.old (heard_of session.old line.now) going answer session.new saver.new
         × (text.new.items ≡ text.old.items ++ answer)) }
     ensures err { result ≡ Err stop.NoMemory → session.new ≡ session.old }
     ensures saver { OnErr result (saver.new ≡ saver.old) }
@@ -43,7 +45,7 @@ pub(crate) fn turn<S: Saver>(
         session.progress(),
         line,
     )?;
-    take(session, saver, heard, text)
+    take(session, saver, views, heard, text)
 }
 
 /// A line as it came, without its line feed: none where it lacks that and whole lines are wanted.
@@ -58,13 +60,14 @@ fn without_end(whole: bool, line: &[u8]) -> Option<&[u8]>
 }
 
 /// Goes on with what was heard.
-fn take<S: Saver>(
+fn take<S: Saver, V: Shows>(
     session: &mut Session,
     saver: &mut S,
+    views: &V,
     heard: Heard,
     text: &mut Vec<u8>,
 ) -> Result<Going, Stop>
-    ensures ok { IfOk result (λ going. (answer : List ℕ) × GoesOn S.saves session.old saver.old heard going answer session.new saver.new
+    ensures ok { IfOk result (λ going. (answer : List ℕ) × GoesOn V.shows S.saves session.old saver.old heard going answer session.new saver.new
         × (text.new.items ≡ text.old.items ++ answer)) }
     ensures err { result ≡ Err stop.NoMemory → session.new ≡ session.old }
     ensures saver { OnErr result (saver.new ≡ saver.old) }
@@ -74,9 +77,9 @@ fn take<S: Saver>(
         Heard::Nothing => {}
         Heard::Heading => session.take_heading(text)?,
         Heard::Record(said, line) => session.take_record(said, line.as_slice(), text)?,
-        Heard::Shown(wanted) => tell_wanted(session, &wanted, text)?,
+        Heard::Shown(wanted) => tell_wanted(session, views, &wanted, text)?,
         Heard::Undo => session.take_undo(text)?,
-        Heard::Save(file) => save_script(session, saver, file.as_slice(), text)?,
+        Heard::Save(file) => save_script(session, saver, views, file.as_slice(), text)?,
         Heard::Help => tell_help(session, text)?,
         Heard::Quit => return Ok(Going::Ends),
         Heard::Bad { field, text: words } => session.take_bad(field, words.as_slice(), text)?,

@@ -16,8 +16,8 @@ use Rattle.pf_stream.specs.Reading.{longest_script}
 use Rattle.pf_script.specs.declared.plan.fault.BadRecord.{BadRecord}
 use Rattle.pf_session_views.specs.Answered.{Answers}
 use Rattle.pf_session_views.specs.Shown.{IsShown, Shows, ShowsAnswer, ShowsOf, ShowsShort, ShowsPlan}
-use Rattle.pf_session_views.specs.declared.showing.Showing.{Showing}
-use Rattle.pf_session_views.specs.declared.showing.Showing.TheVariants.{Text}
+use Rattle.pf_session_lines.specs.declared.showing.Showing.{Showing}
+use Rattle.pf_session_lines.specs.declared.showing.Showing.TheVariants.{Text}
 use Rattle.pf_session_lines.specs.declared.wanted.Wanted.{Wanted}
 
 -- Use: the script of version 2 was short enough.

@@ -18,8 +18,8 @@ use Rattle.pf_script.specs.declared.plan.fault.BadRecord.{BadRecord}
 use Rattle.pf_script.specs.declared.plan.fault.Reason.{Reason}
 use Rattle.pf_script.specs.declared.plan.fault.Reason.TheVariants.{NoSettings}
 use Rattle.pf_session_views.specs.Answered.{Answers}
-use Rattle.pf_session_views.specs.declared.showing.Showing.{Showing}
-use Rattle.pf_session_views.specs.declared.showing.Showing.TheVariants.{Text, Bad}
+use Rattle.pf_session_lines.specs.declared.showing.Showing.{Showing}
+use Rattle.pf_session_lines.specs.declared.showing.Showing.TheVariants.{Text, Bad}
 use Rattle.pf_session_lines.specs.declared.wanted.Wanted.{Wanted}
 
 -- of a bad record; one that comes before the settings, or in place of them, lacks these

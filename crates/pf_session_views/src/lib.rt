@@ -4,6 +4,6 @@
 #![tactic(auto)]
 
 mod answer;
-pub mod show;
-pub mod showing;
+pub mod script_views;
+mod show;
 mod words;

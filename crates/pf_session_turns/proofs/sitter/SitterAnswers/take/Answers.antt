@@ -2,5 +2,5 @@ use Rattle.pf_session_turns.proofs.Answered.{taken}
 use Rattle.pf_session_turns.proofs.sitter.SitterAnswers.take.Goals as goal
 
 pub returns-clause-ok : goal.returns-clause-ok
-returns-clause-ok g c = taken g.S.Saver.saves c.self.inside.session c.args.self.now c.self.inside.saver c.args.line.now c.answer.result c.answer.new.session
+returns-clause-ok g c = taken g.V.Shows.shows g.S.Saver.saves c.self.inside.session c.args.self.now c.self.inside.saver c.args.line.now c.answer.result c.answer.new.session
     c.answer.new.saver c.args.text.now.items c.answer.new.text.items c.self.view_is c.answer.ensures.ok
