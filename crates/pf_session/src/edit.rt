@@ -1,20 +1,15 @@
 ghost use Rattle.std.specs.Prelude.{◌≡◌, IfOk, OnErr};
-ghost use Rattle.pf_desk.specs.Desk.{IsDesk};
 ghost use Rattle.pf_session.specs.Edits.{AreSame, HasChanged};
 
 use crate::edit_answer::edit_answer;
 use crate::made::number_made;
 use crate::pair::extend_both;
+use crate::session_desk::SessionDesk;
 use pf_answers::manner::Manner;
-use pf_desk::command::Command;
-use pf_desk::desk::Desk;
 use pf_order::meter::Meter;
 use pf_scenario::change::Change;
 use pf_vocabulary::names::names::Names;
 use std::alloc::{AllocError, Global};
-
-/// All commands of a session come from the one caller.
-pub(crate) const CALLER: u32 = 0;
 
 /// Carries a change out: appends its record to the script and the answer to the text, and gives the number of the event of the reply,
 /// where the change was made.
@@ -26,7 +21,7 @@ pub(crate) fn change_desk(
     alloc: Global,
     manner: Manner,
     names: &Names,
-    desk: &mut Desk,
+    desk: &mut SessionDesk,
     change: Change,
     strict: bool,
     line: &[u8],
@@ -39,9 +34,9 @@ pub(crate) fn change_desk(
     ensures same { OnErr result (AreSame script.old.items text.old.items script.new.items text.new.items) }
 {
     let mut meter = Meter::new();
-    let prepared = desk.prepare(&mut meter, CALLER, Command::Edit { change, strict })?;
+    let prepared = desk.prepare(&mut meter, change, strict)?;
     let answer = edit_answer(alloc, manner, names, desk, &prepared, change, strict)?;
-    extend_both(script, line, text, &answer)?;
-    let reply = desk.commit(prepared);
+    extend_both(script, line, text, &answer.text)?;
+    let reply = desk.commit(prepared, answer.counts);
     Ok(number_made(&reply))
 }

@@ -1,4 +1,4 @@
-ghost use Rattle.std.specs.Prelude.{◌≡◌, ◌++◌, IfOk, OnOk};
+ghost use Rattle.std.specs.Prelude.{◌≡◌, ◌++◌, IfOk, IfSome, OnOk};
 ghost use Rattle.std.specs.Option.{option_map};
 ghost use Rattle.pf_answers.specs.Changes.{counts_of, made_text};
 ghost use Rattle.pf_answers.specs.Refused.{refused_text};
@@ -8,11 +8,11 @@ ghost use Rattle.pf_notes.specs.Refusal.{refusal_text};
 ghost use Rattle.pf_script_results.specs.Recount.{name_of_change, task_of_change};
 ghost use Rattle.pf_session.specs.Answers.{edit_answer};
 
+use crate::session_desk::SessionDesk;
 use pf_answers::changes::push_made;
 use pf_answers::counts::Counts;
 use pf_answers::manner::Manner;
 use pf_answers::refused::push_refused;
-use pf_desk::desk::Desk;
 use pf_desk::prepared::Prepared;
 use pf_desk::reply::{Fault, Reply};
 use pf_desk::snapshot::Snapshot;
@@ -22,6 +22,13 @@ use pf_scenario::change::Change;
 use pf_scenario::scenario::Scenario;
 use pf_vocabulary::names::names::Names;
 use std::alloc::{AllocError, Global};
+
+/// The answer to a change, and the counts of the desk with it, where they were taken.
+#[derive(Drop)]
+pub(crate) struct EditAnswer {
+    pub(crate) text: Vec<u8>,
+    pub(crate) counts: Option<Counts>,
+}
 
 /// The task of the event that a change brings.
 fn task_of_change(change: Change) -> Option<u64>
@@ -71,11 +78,12 @@ fn refused_answer(
 fn made_answer(
     alloc: Global,
     manner: Manner,
-    desk: &Desk,
+    desk: &SessionDesk,
     snapshot: &Snapshot,
     id: u64,
-) -> Result<Vec<u8>, AllocError>
-    ensures { IfOk result (λ v. v.items ≡ made_text manner id (counts_of desk.now.state) (counts_of snapshot.now.state)) }
+) -> Result<EditAnswer, AllocError>
+    ensures text { IfOk result (λ a. a.text.items ≡ made_text manner id (counts_of desk.now.state) (counts_of snapshot.now.state)) }
+    ensures counts { IfOk result (λ a. IfSome a.counts (λ c. c ≡ counts_of snapshot.now.state)) }
 {
     let mut answer = Vec::new(alloc);
     if manner.quiet && !manner.json {
@@ -84,12 +92,18 @@ fn made_answer(
             denials: 0,
         };
         push_made(&mut answer, manner, id, none, none)?;
-        return Ok(answer);
+        return Ok(EditAnswer {
+            text: answer,
+            counts: None,
+        });
     }
-    let before = Counts::of_desk(desk)?;
+    let before = desk.counts()?;
     let after = Counts::of_snapshot(snapshot)?;
     push_made(&mut answer, manner, id, before, after)?;
-    Ok(answer)
+    Ok(EditAnswer {
+        text: answer,
+        counts: Some(after),
+    })
 }
 
 /// The answer to a change that was made ready.
@@ -97,20 +111,26 @@ pub(crate) fn edit_answer(
     alloc: Global,
     manner: Manner,
     names: &Names,
-    desk: &Desk,
+    desk: &SessionDesk,
     prepared: &Prepared,
     change: Change,
     strict: bool,
-) -> Result<Vec<u8>, AllocError>
+) -> Result<EditAnswer, AllocError>
     requires { MakesReady 0 (command.Edit change strict) desk.now prepared.now }
-    ensures { IfOk result (λ v. v.items ≡ edit_answer manner names.now desk.now.state change strict) }
+    ensures text { IfOk result (λ a. a.text.items ≡ edit_answer manner names.now desk.now.state change strict) }
+    ensures counts { IfOk result (λ a. IfSome a.counts (λ c. c ≡ counts_of prepared.now.seen.state)) }
 {
     let _ = strict;
     match *prepared.reply() {
         Reply::Edited { id } => made_answer(alloc, manner, desk, prepared.snapshot(), id),
         Reply::Refused(fault) => {
-            refused_answer(alloc, manner, names, desk.scenario(), change, fault)
+            let scenario = desk.as_desk().scenario();
+            let text = refused_answer(alloc, manner, names, scenario, change, fault)?;
+            Ok(EditAnswer { text, counts: None })
         }
-        Reply::Stepped { .. } => Ok(Vec::new(alloc)),
+        Reply::Stepped { .. } => Ok(EditAnswer {
+            text: Vec::new(alloc),
+            counts: None,
+        }),
     }
 }

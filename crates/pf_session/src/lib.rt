@@ -8,6 +8,7 @@ pub mod made;
 mod open;
 mod pair;
 pub mod session;
+mod session_desk;
 mod step;
 pub mod stop;
 mod take_record;

@@ -1,6 +1,7 @@
 ghost use Rattle.std.specs.Prelude.{◌≡◌};
 
 use crate::made::Made;
+use crate::session_desk::SessionDesk;
 use pf_answers::bad::push_bad;
 use pf_answers::manner::Manner;
 use pf_answers::shown::push_shown;
@@ -19,7 +20,7 @@ pub struct Session {
     pub(crate) is_first: bool,
     pub(crate) progress: Progress,
     /// The desk, after the settings.
-    pub(crate) desk: Option<Desk>,
+    pub(crate) desk: Option<SessionDesk>,
     /// The heading, and the records that were good so far.
     pub(crate) script: Vec<u8>,
     /// The changes that were made and are not taken back, the last one last.
@@ -109,7 +110,10 @@ impl Session {
     pub fn desk(&self) -> Option<&Desk>
         ensures { option_map (λ d. d.now.state) result ≡ self.now.course.desk }
     {
-        self.desk.as_ref()
+        match &self.desk {
+            Some(desk) => Some(desk.as_desk()),
+            None => None,
+        }
     }
 
     /// The script of the records that were good so far, after its heading.

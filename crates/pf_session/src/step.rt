@@ -9,11 +9,10 @@ ghost use Rattle.pf_session.specs.Answers.{steps_answer};
 ghost use Rattle.pf_session.specs.Edits.{AreLonger};
 ghost use Rattle.pf_session.specs.declared.stop.Stop.TheVariants as stop;
 
-use crate::edit::CALLER;
+use crate::session_desk::SessionDesk;
 use crate::stop::Stop;
 use pf_answers::manner::Manner;
 use pf_answers::steps::{StepsAsked, push_step, push_steps_end, push_steps_front};
-use pf_desk::command::Command;
 use pf_desk::desk::Desk;
 use pf_desk::reply::Reply;
 use pf_order::meter::Meter;
@@ -36,19 +35,9 @@ fn asked_of(desk: &Desk, count: u64) -> StepsAsked
     }
 }
 
-/// Takes a step.
-fn take_step(desk: &mut Desk, meter: &mut Meter) -> Result<Reply, AllocError>
-    ensures reply { IfOk result (λ reply. reply ≡ reply_to desk.old.state Step) }
-    ensures state { OnOk result (desk.new.state ≡ state_behind desk.old.state (Step ∷ [])) }
-    ensures places { IfOk result (λ reply. HasFewPlaces reply) }
-    ensures err { OnErr result (desk.new.state ≡ desk.old.state) }
-{
-    Ok(desk.apply(meter, CALLER, Command::Step)?)
-}
-
 /// Takes a step after so many of the same record, and appends what it adds.
 fn add_step(
-    desk: &mut Desk,
+    desk: &mut SessionDesk,
     meter: &mut Meter,
     json: bool,
     first: u64,
@@ -59,7 +48,7 @@ fn add_step(
     ensures state { OnOk result (desk.new.state ≡ state_behind desk.old.state (Step ∷ [])) }
     ensures err { result ≡ Err stop.NoMemory → (desk.new.state ≡ desk.old.state) × (turn ≡ 0) }
 {
-    match take_step(desk, meter) {
+    match desk.step(meter) {
         Ok(reply) => push_reply(answer, json, first, &reply),
         Err(_) => Err(stop_at(turn)),
     }
@@ -79,7 +68,7 @@ fn push_reply(answer: &mut Vec<u8>, json: bool, first: u64, reply: &Reply) -> Re
 
 /// Takes so many steps, and appends what each adds, the first of which takes the slot `first`.
 fn take_steps(
-    desk: &mut Desk,
+    desk: &mut SessionDesk,
     json: bool,
     first: u64,
     count: u64,
@@ -130,7 +119,7 @@ fn finish(
 pub(crate) fn step_desk(
     alloc: Global,
     manner: Manner,
-    desk: &mut Desk,
+    desk: &mut SessionDesk,
     count: u64,
     line: &[u8],
     script: &mut Vec<u8>,
@@ -142,7 +131,7 @@ pub(crate) fn step_desk(
     ensures script { result ≡ Err stop.NoMemory → script.new.items ≡ script.old.items }
     ensures same { OnErr result (text.new.items ≡ text.old.items) }
 {
-    let steps = asked_of(desk, count);
+    let steps = asked_of(desk.as_desk(), count);
     let mut answer = Vec::with_capacity(alloc, ROOM)?;
     push_steps_front(alloc, &mut answer, manner.json, steps)?;
     text.reserve(ROOM)?;

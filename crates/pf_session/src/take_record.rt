@@ -148,7 +148,7 @@ impl Session {
         let Some(desk) = &mut self.desk else {
             return self.take_without_desk(label, line);
         };
-        let before = event_before(desk.scenario(), change);
+        let before = event_before(desk.as_desk().scenario(), change);
         let was = text.len();
         self.made.reserve(1)?;
         let names = &self.progress.names;
