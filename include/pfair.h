@@ -98,7 +98,7 @@ enum {
 };
 
 /*
- * The texts that a desk has of itself: each is what the program pfair writes in a format (docs/FORMATS.md), without reply
+ * The texts that a desk has of itself: each is what the program pfair writes in a format (docs/TABLES.md), without reply
  * lines, which pfair_replies gives. pfair_part gives a part of those with a star. pfair_svg gives the picture. Of a
  * desk that a plan opened they tell what the script named its tasks and how long a slot is.
  */
@@ -258,7 +258,7 @@ uint32_t pfair_open(pfair_desk *desk, uint64_t processors, uint64_t base, uint64
 uint32_t pfair_open_wide(pfair_desk *desk, uint64_t processors, uint64_t base, uint64_t cap, uint64_t every);
 
 /*
- * Opens a desk with the settings of a whole script of any version (docs/FORMATS.md) at a handle that has none, and asks it for
+ * Opens a desk with the settings of a whole script of any version (docs/SCRIPTS.md) at a handle that has none, and asks it for
  * what the records after them say, as pfair_run does, with the same statuses. The names of a plan and the
  * length of its slot stay with the desk until pfair_close, for its texts; labels do not, and no call gives a name or takes one.
  * PFAIR_BAD_RECORD: *bad tells where it is; where the settings were read the desk is open, and the records before it were
@@ -300,7 +300,7 @@ uint32_t pfair_advance(pfair_desk *desk, uint32_t caller, uint64_t count, uint64
 
 /*
  * Asks for what records say, one after another, as they stand after the settings in a script of version 2
- * (docs/FORMATS.md): "join,0,1,2,3,0\nstrict,alter,1,join,4,1,2,3,0\nstep,8\n". Tasks and events go by number, of a desk that
+ * (docs/SCRIPTS.md): "join,0,1,2,3,0\nstrict,alter,1,join,4,1,2,3,0\nstep,8\n". Tasks and events go by number, of a desk that
  * a plan opened too: there are no names, labels, comments or blanks. PFAIR_OK where each of them is a record:
  * whether the desk refused what it asks for, pfair_replies tells. PFAIR_BAD_RECORD at the first one that is none: *bad tells
  * where it is, and those before it were carried out. PFAIR_NO_MEMORY: it answered the first commands. PFAIR_NOT_OPEN. With
@@ -323,7 +323,7 @@ uint32_t pfair_settings(pfair_desk *desk, pfair_setup *setup);
 uint32_t pfair_entries(pfair_desk *desk, size_t *count);
 
 /*
- * The reply lines (docs/FORMATS.md) of the commands that the desk has answered, from the `first` on, counted from 0: *count
+ * The reply lines (docs/COMMANDS.md) of the commands that the desk has answered, from the `first` on, counted from 0: *count
  * bytes. What pfair_entries tells before a pfair_run is the first of that run. PFAIR_TOO_SHORT, PFAIR_NO_MEMORY,
  * PFAIR_NOT_OPEN.
  */

@@ -5,10 +5,10 @@ pfair.help, and behind each stands the file lesson; version is what is told of t
 that are refused: lines '$ pfair WORDS', as a shell reads them, then what is told of each on standard error, and the status in
 brackets.
 
-The file crates/pfair/cases/mistakes has what new users mistake, forty or more, a block for each: what it is, the words, behind
-'| ' the lines of the file plan.csv, which stand on standard input too, behind '> ' the sentence by which standard error tells
-what is wrong or what would be right, and the status in brackets. Each is run in a folder that has this file, and the folder
-`folder.csv`.
+The file mistakes beside it has what new users mistake, forty or more, a block for each: what it is, the words, behind '| ' the
+lines of the file plan.csv, which stand on standard input too, behind '> ' the sentence by which standard error tells what is wrong
+or what would be right, and the status in brackets. Each is run in a folder that has this file, and the folder `folder.csv`. Beside
+these texts there are cases (tools/told-cases) and no other file.
 """
 import difflib
 import pathlib
@@ -16,7 +16,11 @@ import shlex
 import tempfile
 from dataclasses import dataclass
 
-from programs import CASES, case_bytes, run_to_end
+import cases
+from programs import CASES, run_to_end
+
+TEXTS = CASES / "words"
+NAMED = ("lesson", "version", "refusals", "mistakes")
 
 # A script that is bad, so that words which are answered before anything is read are seen to be.
 BAD_SCRIPT = b"step\n"
@@ -25,7 +29,7 @@ BAD_SCRIPT = b"step\n"
 FEWEST_MISTAKES = 40
 
 # Each word behind which help may be asked for, and `pfair` for the program; what help tells of itself is another text.
-TAUGHT = sorted(it.stem for it in (CASES / "words").glob("*.help") if it.stem != "help")
+TAUGHT = sorted(it.stem for it in TEXTS.glob("*.help") if it.stem != "help")
 
 
 @dataclass
@@ -64,6 +68,11 @@ class Mistake:
             return f"{self.what} {self.words}: {done.stderr!r} status {done.returncode}, not {self.sentence!r} and {self.status}"
 
 
+def bytes_of(name):
+    """What a file of crates/pfair/cases/words has."""
+    return (TEXTS / name).read_bytes()
+
+
 def behind(mark, lines):
     """What stands in the lines with this mark, each ended."""
     return "".join(f"{line[len(mark):]}\n" for line in lines if line.startswith(mark))
@@ -71,7 +80,7 @@ def behind(mark, lines):
 
 def mistaken():
     """What new users mistake."""
-    for block in case_bytes("mistakes").decode().split("\n\n"):
+    for block in bytes_of("mistakes").decode().split("\n\n"):
         what, *lines = block.splitlines()
         words, sentence = behind("$ pfair ", lines).strip(), behind("> ", lines).strip()
         yield Mistake(what, shlex.split(words), behind("| ", lines).encode(), sentence.encode(), int(lines[-1].strip("[]")))
@@ -91,10 +100,10 @@ def ways_to_help(word):
 
 def helps():
     """Help of the program and of each word, in each way in which it may be asked for, and the version."""
-    lesson = case_bytes("words/lesson")
-    texts = [(words, case_bytes(f"words/{it}.help") + lesson) for it in TAUGHT for words in ways_to_help(it)]
-    texts += [(["help", "help"], case_bytes("words/help.help") + lesson)]
-    texts += [([word], case_bytes("words/version")) for word in ("--version", "-V")]
+    lesson = bytes_of("lesson")
+    texts = [(words, bytes_of(f"{it}.help") + lesson) for it in TAUGHT for words in ways_to_help(it)]
+    texts += [(["help", "help"], bytes_of("help.help") + lesson)]
+    texts += [([word], bytes_of("version")) for word in ("--version", "-V")]
     for words, text in texts:
         yield Answer(words, BAD_SCRIPT, text, b"", 0)
 
@@ -102,7 +111,7 @@ def helps():
 def refusals():
     """The words that are refused."""
     asked, told = [], ""
-    for line in case_bytes("words/refusals").decode().splitlines(keepends=True):
+    for line in bytes_of("refusals").decode().splitlines(keepends=True):
         if line.startswith("$ pfair "):
             asked, told = [*asked, shlex.split(line[len("$ pfair "):])], ""
         elif line.startswith("["):
@@ -121,13 +130,16 @@ def listed(text, heading):
 
 def untaught(formats):
     """A text for each format that the lesson has no line for, each line of no format, each word without a help text, or with one
-    that the program's help does not list, an example that is none, and mistakes that are too few or have no sentence."""
-    lesson = case_bytes("words/lesson")
+    that the program's help does not list, an example that is none, a file that nothing reads, and mistakes that are too few or have
+    no sentence."""
+    lesson = bytes_of("lesson")
     taught = listed(lesson, "Formats")
     faults = [f"words/lesson: {it}: a format without a line, or a line without a format" for it in sorted(taught ^ set(formats))]
-    words = listed(case_bytes("words/pfair.help"), "Commands") ^ {"help", *TAUGHT} - {"pfair"}
+    words = listed(bytes_of("pfair.help"), "Commands") ^ {"help", *TAUGHT} - {"pfair"}
     faults += [f"words/pfair.help: {it}: a word without a help text, or a help text without a word" for it in sorted(words)]
-    example = b"".join(b"  " + line for line in case_bytes("three-tasks.csv").splitlines(keepends=True))
+    example = b"".join(b"  " + line for line in cases.script("three-tasks")["csv"].splitlines(keepends=True))
     faults += [] if example in lesson else ["words/lesson: its example is not the script three-tasks"]
+    others = [it.name for it in sorted(TEXTS.iterdir()) if it.suffix not in (".help", cases.ENDING) and it.name not in NAMED]
+    faults += [f"words/{it}: a file that nothing reads" for it in others]
     told = [it for it in mistaken() if it.sentence]
-    return faults + ([] if len(told) >= FEWEST_MISTAKES else [f"mistakes: {len(told)} with a sentence, not {FEWEST_MISTAKES}"])
+    return faults + ([] if len(told) >= FEWEST_MISTAKES else [f"words/mistakes: {len(told)} with a sentence, not {FEWEST_MISTAKES}"])

@@ -167,9 +167,8 @@ def evidence(crate, texts, edit, found):
 
 
 def unnamed(edits):
-    """The edits that name no clause though they must: those of the gate, and those of more/ where others there do."""
-    strict = {False} | {edit.is_more for edit in edits if edit.clause}
-    return [edit for edit in edits if not edit.clause and edit.is_more in strict]
+    """The edits that name no clause."""
+    return [edit for edit in edits if not edit.clause]
 
 
 def ensured(crate, texts, function):

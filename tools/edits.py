@@ -22,8 +22,6 @@ class Edit:
     touched: frozenset
     # Whether the lines of functions alone change, so that no other function's proof can.
     is_of_bodies: bool
-    # Whether it stands in more/, so that the gate does not try it.
-    is_more: bool
     # The clause that it breaks, by its function and its name, or None where it names none.
     clause: tuple
     # Its file.
@@ -172,14 +170,14 @@ def read_clause(file):
 
 
 def texts_and_changes(folder):
-    """The texts of the crate in this folder, and each file of an edit, those in more/ too, with the changes that it lists."""
+    """The texts of the crate in this folder, and each file of an edit, with the changes that it lists."""
     texts = {str(it.relative_to(folder)): it.read_text() for part in ("src", "specs", "proofs")
              for it in sorted((folder / part).rglob("*.*")) if it.suffix in (".rt", ".antt")}
-    return texts, [(it, read_changes(it)) for it in sorted(pathlib.Path(folder, "wrong-bodies").rglob("*.edit"))]
+    return texts, [(it, read_changes(it)) for it in sorted(pathlib.Path(folder, "wrong-bodies").glob("*.edit"))]
 
 
 def read_edits(folder):
-    """The texts of the crate in this folder, its edits, those in more/ too, and a text for each that can't be applied."""
+    """The texts of the crate in this folder, its edits, and a text for each that can't be applied."""
     edits, bad = [], []
     texts, listed = texts_and_changes(folder)
     for file, changes in listed:
@@ -192,5 +190,5 @@ def read_edits(folder):
         # A constant is judged by the law that its edit names.
         law = re.match(r"(?:\w+::)?laws(?=::)", clause[0]) if clause else None
         touched |= {f"{folder.name}::{law[0]}"} if law else set()
-        edits.append(Edit(file.stem, changes, touched, is_of_bodies, file.parent.name == "more", clause, file))
+        edits.append(Edit(file.stem, changes, touched, is_of_bodies, clause, file))
     return texts, edits, bad

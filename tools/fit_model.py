@@ -1,4 +1,4 @@
-"""What `pfair fit` must answer to a script, from docs/FORMATS.md, in the plainest way: over the run of model.py."""
+"""What `pfair fit` must answer to a script, from docs/COMMANDS.md, in the plainest way: over the run of model.py."""
 import json
 from dataclasses import dataclass
 from fractions import Fraction

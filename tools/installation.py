@@ -137,7 +137,7 @@ def library_files(version):
 def document_files():
     """README, the changes, and of docs/ and examples/ all but what only the gate compares."""
     paths = [TOP / "README.md", TOP / "CHANGELOG.md", *(TOP / "docs").iterdir()]
-    paths += [it for it in (TOP / "examples").iterdir() if it.suffix in (".csv", ".md", ".py")]
+    paths += [it for it in (TOP / "examples").rglob("*") if it.suffix in (".csv", ".md", ".py")]
     return {f"{DOCUMENTS}/{it.relative_to(TOP)}": File(it.read_bytes()) for it in sorted(paths)}
 
 

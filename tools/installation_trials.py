@@ -90,7 +90,7 @@ def sums_hold(prefix):
 def program_runs(prefix):
     """The program writes the chart of an example."""
     chart = run([prefix / "bin" / "pfair", "run", "-q", "-f", "chart", TOP / "examples" / "overload.csv"])
-    must_be(chart, (TOP / "examples" / "overload.chart").read_text(), "the chart of an example")
+    must_be(chart, (TOP / "examples" / "expected" / "overload.chart").read_text(), "the chart of an example")
 
 
 def formats_are_taken(prefix):

@@ -1,4 +1,4 @@
-"""What pfair must answer at the very limits of lines, pages and pictures, by docs/FORMATS.md: the last that is taken, and one more.
+"""What pfair must answer at the very limits of lines, pages and pictures, by docs/COMMANDS.md: the last that is taken, and one more.
 
 The scripts are long and all alike, so they are made here. The bytes of a page are head and foot of any other around its object.
 """

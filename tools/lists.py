@@ -1,4 +1,4 @@
-"""What `pfair convert` must answer to a list of tasks without faults, from docs/FORMATS.md, in the plainest way.
+"""What `pfair convert` must answer to a list of tasks without faults, from docs/COMMANDS.md, in the plainest way.
 
 It shares nothing with the program: times are fractions, and each base of the 5,260 is looked at for each task.
 """

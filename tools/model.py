@@ -1,4 +1,4 @@
-"""What pfair must write for a script, from docs/RULES.md and docs/FORMATS.md, in the plainest way.
+"""What pfair must write for a script, from RULES, SCRIPTS, COMMANDS and TABLES of docs/, in the plainest way.
 
 It reads as the rules do, shares nothing with the program, and is slow: every step, strict edit and report runs its
 scenario from slot zero; quanta are counted anew each time; each pair of eligible subtasks is compared. It is made for

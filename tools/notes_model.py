@@ -1,4 +1,4 @@
-"""What pfair must tell behind a run in notes, and by `check --run`, from docs/FORMATS.md: over the lines of sentences.py."""
+"""What pfair must tell behind a run in notes, and by `check --run`, from docs/COMMANDS.md: over the lines of sentences.py."""
 import model
 import sentences
 

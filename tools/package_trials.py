@@ -18,7 +18,7 @@ from programs import TOP, skip
 from progress import Failed
 
 EXAMPLE = TOP / "examples" / "overload.csv"
-CHART = TOP / "examples" / "overload.chart"
+CHART = TOP / "examples" / "expected" / "overload.chart"
 PYTHON_PLAN = TOP / "faces" / "python" / "examples" / "plan.py"
 PLAN = TOP / "faces" / "c" / "plan.out"
 

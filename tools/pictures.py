@@ -1,4 +1,4 @@
-"""The charts and pictures that pfair must draw, from docs/FORMATS.md, in the plainest way: over the runs of model.py."""
+"""The charts and pictures that pfair must draw, from docs/TABLES.md, in the plainest way: over the runs of model.py."""
 from dataclasses import dataclass
 from itertools import count
 

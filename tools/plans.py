@@ -1,4 +1,4 @@
-"""What pfair must write for a plan, from docs/FORMATS.md, in the plainest way: over the desk of model.py."""
+"""What pfair must write for a plan, from docs/SCRIPTS.md, in the plainest way: over the desk of model.py."""
 import json
 import re
 from dataclasses import dataclass, field, replace

@@ -7,12 +7,12 @@ import sys
 TOP = pathlib.Path(__file__).resolve().parent.parent
 CASES = TOP / "crates" / "pfair" / "cases"
 
-# The formats of `run` whose answers stand beside a case, in a file of that ending; those that show a part of these, and have
-# no file; and of the first those that may show some of the slots.
+# The formats of `run` whose answers scripts of the cases and examples have, in a part of that name; those that show a part of these,
+# and have none; and of the first those that may show some of the slots.
 FORMATS = ("schedule", "tables", "json", "events", "script", "processors", "stats", "chart", "svg", "windows", "jobs",
            "load", "quanta", "c")
 PARTS = ("replies", "lags", "misses", "denials", "report")
-# Those whose answers are told cases alone (tools/told-cases).
+# Those whose answers are in cases with words alone (tools/told-cases).
 TOLD = ("trace", "full", "html")
 RANGED = ("schedule", "chart", "svg", "windows", "load", "quanta")
 
@@ -66,14 +66,6 @@ def skip(what, needs):
     if path := os.environ.get("GATE_SKIPPED"):
         with open(path, "a") as file:
             file.write(line + "\n")
-
-
-def case_bytes(name):
-    """What a file of the cases holds. Where there is none, the tool ends and says so."""
-    path = CASES / name
-    if not path.is_file():
-        sys.exit(f"no case {path}")
-    return path.read_bytes()
 
 
 def run_to_end(words, what, **how):

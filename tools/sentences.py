@@ -1,4 +1,4 @@
-"""What pfair must tell of what was refused, denied and missed in a script, from docs/FORMATS.md, in the plainest way."""
+"""What pfair must tell of what was refused, denied and missed in a script, from docs/COMMANDS.md, in the plainest way."""
 from dataclasses import dataclass
 from functools import lru_cache
 

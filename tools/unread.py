@@ -1,4 +1,4 @@
-"""What each command must answer where its file can't be read, by the kind of the fault: docs/FORMATS.md, what is told of files.
+"""What each command must answer where its file can't be read, by the kind of the fault: docs/COMMANDS.md, "Notes".
 
 A file that may not be read is tried as nobody, since whoever is root may read any.
 """

@@ -1,4 +1,4 @@
-"""What `pfair why` must tell of a slot, from docs/FORMATS.md, in the plainest way: over the run of model.py."""
+"""What `pfair why` must tell of a slot, from docs/COMMANDS.md, in the plainest way: over the run of model.py."""
 import json
 import random
 import zlib

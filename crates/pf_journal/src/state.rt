@@ -2,7 +2,7 @@
 #[derive(Clone, Copy, PartialEq, Eq)]
 pub enum State {
     /// No record stands in it yet: it is empty, or a crash left it while its heading was written. So has each file of one
-    /// byte at most, and each of at most ten whose first is a blank.
+    /// byte at most, and each of at most nine whose first is a blank.
     New,
     /// A journal of this version, at rest or as a crash may have left it.
     Journal,

@@ -245,7 +245,7 @@ class Desk:
         return {it.id: event_of(it.event) for it in self._all("events", struct("numbered"))}
 
     def text(self, kind: str) -> str:
-        """A text of the desk: what the program pfair writes in a format (docs/FORMATS.md), without reply lines.
+        """A text of the desk: what the program pfair writes in a format (docs/TABLES.md), without reply lines.
 
         The tables "schedule", "lags", "misses", "denials", "events", "processors", "stats", "windows", "jobs", "load" and
         "quanta" are CSV, and "tables" has the first four, each behind a line with its name; "script" is for the program

@@ -1,6 +1,6 @@
 use pfair_sys as sys;
 
-/// A text that a desk has of itself: what the program pfair writes in a format (`docs/FORMATS.md`), without reply lines.
+/// A text that a desk has of itself: what the program pfair writes in a format (`docs/TABLES.md`), without reply lines.
 #[derive(Clone, Copy, Debug, PartialEq, Eq)]
 pub enum Text {
     /// CSV: the slots stepped, with a column for each processor.

@@ -1,8 +1,12 @@
-//! The cases of the program, crates/pfair/cases/told, of which a desk gives the same bytes: `check`, `run`, and `run -f FORMAT`, of
-//! a picture with its look and its slots.
+//! The cases of the program, crates/pfair/cases, of which a desk gives the same bytes: `check`, `run`, and
+//! `run -f FORMAT`, of a picture with its look and its slots.
 use pfair::{Desk, Error, Look, Style, Text};
+use std::collections::HashMap;
 use std::fs;
 use std::path::{Path, PathBuf};
+
+/// The folders that have such cases.
+const FOLDERS: [&str; 3] = ["check", "pictures", "run"];
 
 const FORMATS: [(&str, Text); 16] = [
     ("schedule", Text::Schedule),
@@ -64,24 +68,61 @@ fn without_totals(out: &str) -> Vec<&str> {
     lines
 }
 
+/// The name of the part that a line begins, and whether it is escaped.
+fn heading(line: &str) -> Option<(&str, bool)> {
+    let name = line.strip_prefix("-- ")?.strip_suffix(" --\n")?;
+    let (name, is_escaped) = name.strip_suffix(", escaped").map_or((name, false), |name| (name, true));
+    name.bytes().all(|byte| matches!(byte, b'a'..=b'z' | b'0'..=b'9' | b'.' | b'-')).then_some((name, is_escaped))
+}
+
+/// The text that stands escaped so, where it is one.
+fn unescaped(part: &str) -> Option<String> {
+    let (mut bytes, mut rest) = (Vec::new(), part);
+    while let Some((front, escape)) = rest.split_once('\\') {
+        bytes.extend(front.bytes());
+        let length = if escape.starts_with('x') { 3 } else { 1 };
+        match &escape[..length] {
+            "\\" => bytes.push(b'\\'),
+            "\n" => {}
+            byte => bytes.push(u8::from_str_radix(&byte[1..], 16).expect("two digits")),
+        }
+        rest = &escape[length..];
+    }
+    bytes.extend(rest.bytes());
+    String::from_utf8(bytes).ok()
+}
+
+/// The parts of a case (crates/pfair/cases/README.md) that are texts, by their names.
+fn parts(case: &str) -> HashMap<&str, String> {
+    let mut parts: Vec<(&str, bool, String)> = Vec::new();
+    for line in case.split_inclusive('\n') {
+        match heading(line) {
+            Some((name, is_escaped)) => parts.push((name, is_escaped, String::new())),
+            None => parts.last_mut().expect("a heading comes first").2 += line,
+        }
+    }
+    let text = |is_escaped, part: String| if is_escaped { unescaped(&part) } else { Some(part) };
+    parts.into_iter().filter_map(|(name, is_escaped, part)| Some((name, text(is_escaped, part)?))).collect()
+}
+
 /// Whether a case has a desk's text and was compared.
-fn compared(args: &Path) -> bool {
-    let read = |ending| fs::read_to_string(args.with_extension(ending)).ok();
-    let words = read("args").unwrap();
-    let words: Vec<&str> = words.lines().collect();
-    let (Some(script), Some(out)) = (read("csv"), read("out")) else { return false };
+fn compared(file: &Path) -> bool {
+    let case = fs::read_to_string(file).unwrap();
+    let parts = parts(&case);
+    let words: Vec<&str> = parts["words"].split_whitespace().collect();
+    let (Some(script), Some(out)) = (parts.get("csv"), parts.get("out")) else { return false };
     if words == ["check"] {
-        assert_eq!(pfair::script_faults(&script).unwrap(), without_totals(&out), "{args:?}");
+        assert_eq!(pfair::script_faults(script).unwrap(), without_totals(out), "{file:?}");
         return true;
     }
     let ["run", words @ ..] = words.as_slice() else { return false };
-    match Desk::open_script(&script) {
+    match Desk::open_script(script) {
         Ok(desk) => {
             let Some(text) = written(words, &desk) else { return false };
-            assert_eq!(text.unwrap(), out, "{args:?}");
+            assert_eq!(text.unwrap(), *out, "{file:?}");
         }
         Err(Error::BadRecord(bad)) if words.is_empty() => {
-            assert_eq!(read("err").unwrap().trim_end(), format!("bad record {}", bad.number), "{args:?}");
+            assert_eq!(parts["err"].trim_end(), format!("bad record {}", bad.number), "{file:?}");
         }
         Err(_) => return false,
     }
@@ -90,10 +131,9 @@ fn compared(args: &Path) -> bool {
 
 #[test]
 fn desks_write_what_the_program_does() {
-    let cases = Path::new(env!("CARGO_MANIFEST_DIR")).join("../../../crates/pfair/cases/told");
-    let files = fs::read_dir(cases).unwrap().map(|file| file.unwrap().path());
-    let done: Vec<PathBuf> =
-        files.filter(|file| file.extension().is_some_and(|it| it == "args")).filter(|it| compared(it)).collect();
+    let cases = Path::new(env!("CARGO_MANIFEST_DIR")).join("../../../crates/pfair/cases");
+    let files = FOLDERS.iter().flat_map(|it| fs::read_dir(cases.join(it)).unwrap()).map(|file| file.unwrap().path());
+    let done: Vec<PathBuf> = files.filter(|it| compared(it)).collect();
     let third = done.iter().filter(|it| it.file_name().unwrap().to_str().unwrap().starts_with("v3-"));
     assert!(third.count() > 40, "{done:?}");
     assert!(done.len() > 100, "{done:?}");

@@ -51,7 +51,7 @@ impl PlainDesk {
         self.plan.events.iter().map(|(id, event)| (*id, *event)).collect()
     }
 
-    /// The report as docs/FORMATS.md has it.
+    /// The report as docs/TABLES.md has it.
     pub fn json(&self) -> String {
         let denials = list(self.denials().iter().map(|it| {
             let (code, reason) = (code(it.reason), it.reason);

@@ -1,4 +1,4 @@
-//! Changes as records of a script, and replies as their lines, as docs/FORMATS.md has them.
+//! Changes as records of a script, and replies as their lines, as docs/SCRIPTS.md and docs/COMMANDS.md have them.
 
 use pfair::{Change, DenialReason, Event, Refusal, WeightFault};
 
