@@ -101,7 +101,14 @@ fn make_with<'a, H: AllocGlobal + Locks, D: Disk + Drop>(
     ensures unmade { IfErr result (λ n. DoesNotBeginOn (manner_of (desk_named words.now)) (desk_named words.now).script path.now n) }
 {
     let manner = manner_of(words);
-    match open_journal(rt.alloc(), found, manner, script, FileSaver::new(rt), ScriptViews) {
+    match open_journal(
+        rt.alloc(),
+        found,
+        manner,
+        script,
+        FileSaver::new(rt),
+        ScriptViews,
+    ) {
         Ok(opened) => with_note(rt.alloc(), words, path, opened),
         Err(unopened) => Err(noted_of(rt.alloc(), words, path, script, unopened)),
     }

@@ -4,11 +4,11 @@ ghost use Rattle.pf_plain_script.specs.Plain.{IsPlain, Plain};
 ghost use Rattle.pf_session_views.specs.Shown.{IsShown, Shows, ShowsAnswer, ShowsShort, ShowsPlan};
 
 use crate::answer::answer;
-use pf_session_lines::showing::Showing;
 use crate::words::words;
 use pf_plain_script::origin::Origin;
 use pf_plain_script::plain::{PlainScript, plain_script};
 use pf_script::plan::fault::BadRecord;
+use pf_session_lines::showing::Showing;
 use pf_session_lines::wanted::Wanted;
 use pf_stream::reading::LONGEST_SCRIPT;
 use pf_vocabulary::fault::answer::Answer;
