@@ -377,41 +377,41 @@ module _ {D : Type 0} (seen : D → List ℕ) (may_leave : D → List ℕ → Ty
       )
 
   -- Use: rounds.
-  pub told_kept : {T : Type 0} (hears : T → List ℕ → T → Type 0) (is_deaf : T → T → Type 0) (tells is_mute : T → List ℕ → T → Type 0)
-      → ToldAreKept seen may_leave is_clean is_mixing hears is_deaf tells is_mute
-  told_kept hears is_deaf tells is_mute shows [] r d line t e rest h kept = (
+  pub told_kept : (shows : Showings) {T : Type 0} (hears : T → List ℕ → T → Type 0) (is_deaf : T → T → Type 0) (tells is_mute : T → List ℕ → T → Type 0)
+      → ToldAreKept shows seen may_leave is_clean is_mixing hears is_deaf tells is_mute
+  told_kept shows hears is_deaf tells is_mute [] r d line t e rest h kept = (
     subst (λ (q : Recording SessionState D). IsKept seen may_leave is_clean q) (sym h.0) kept,
     behind_none r.machine t.machine (ap (λ q. q.machine) h.0),
   )
-  told_kept hears is_deaf tells is_mute shows (round ∷ rounds) r d line t e rest h kept =
+  told_kept shows hears is_deaf tells is_mute (round ∷ rounds) r d line t e rest h kept =
       let is = session_scripted r.machine kept.session in
       let first = round_kept r h.2.answered h.0 kept (went_ahead shows _ r is round.text h.2.answered round.left h.2.answers) h.2.keeps in
-      let more = told_kept hears is_deaf tells is_mute shows rounds h.0 h.1 _ t e rest h.3 first.0 in
+      let more = told_kept shows hears is_deaf tells is_mute rounds h.0 h.1 _ t e rest h.3 first.0 in
       (more.0, behind_both r.machine h.0.machine t.machine first.1 more.1)
 
-  last_left : {T : Type 0} (hears : T → List ℕ → T → Type 0) (is_deaf : T → T → Type 0) (tells is_mute : T → List ℕ → T → Type 0)
-      (shows : Showings) (ending : Result Going SitFault) (r : Recording SessionState D) (d : T) (line : List ℕ) (t : Recording SessionState D) (e : T)
+  last_left : (shows : Showings) {T : Type 0} (hears : T → List ℕ → T → Type 0) (is_deaf : T → T → Type 0) (tells is_mute : T → List ℕ → T → Type 0)
+      (ending : Result Going SitFault) (r : Recording SessionState D) (d : T) (line : List ℕ) (t : Recording SessionState D) (e : T)
       → IsKept seen may_leave is_clean r
       → LastRound (recorded_talk (answers shows) (λ s. s.script) seen may_leave is_clean is_mixing hears is_deaf tells is_mute) r d line ending t e
       → (file : List ℕ) → may_leave t.file file → IsLeft is_mixing r.machine file
-  last_left hears is_deaf tells is_mute shows (Ok going) r d line t e kept h file leaves =
+  last_left shows hears is_deaf tells is_mute (Ok going) r d line t e kept h file leaves =
       let is = session_scripted r.machine kept.session in
       left_kept r h.answered t kept.session (held r is h.answered (went_lines shows _ r is h.text going h.answered h.answers)) kept.records kept.settled h.keeps file leaves
-  last_left hears is_deaf tells is_mute shows (Err Deaf) r d line t e kept h file leaves = left_same r t h.0 kept file leaves
-  last_left hears is_deaf tells is_mute shows (Err Mute) r d line t e kept h file leaves =
+  last_left shows hears is_deaf tells is_mute (Err Deaf) r d line t e kept h file leaves = left_same r t h.0 kept file leaves
+  last_left shows hears is_deaf tells is_mute (Err Mute) r d line t e kept h file leaves =
       let is = session_scripted r.machine kept.session in
       left_kept r h.answered t kept.session (held_some shows _ r is h.text h.answered h.answers) kept.records kept.settled h.went.0 file leaves
-  last_left hears is_deaf tells is_mute shows (Err Unkept) r d line t e kept h file leaves =
+  last_left shows hears is_deaf tells is_mute (Err Unkept) r d line t e kept h file leaves =
       let is = session_scripted r.machine kept.session in
       left_lost r h.answered t kept (held_some shows _ r is h.text h.answered h.answers) h.went.0 file leaves
-  last_left hears is_deaf tells is_mute shows (Err NoMemory) r d line t e kept (inl h) file leaves =
+  last_left shows hears is_deaf tells is_mute (Err NoMemory) r d line t e kept (inl h) file leaves =
       let is = session_scripted r.machine kept.session in
       left_kept r h.answered t kept.session (held_some shows _ r is h.text h.answered h.answers) kept.records kept.settled h.went.0 file leaves
-  last_left hears is_deaf tells is_mute shows (Err NoMemory) r d line t e kept (inr h) file leaves = left_same r t h.0 kept file leaves
+  last_left shows hears is_deaf tells is_mute (Err NoMemory) r d line t e kept (inr h) file leaves = left_same r t h.0 kept file leaves
 
   -- Use: a whole sitting.
-  pub crash_leaves : {T : Type 0} (hears : T → List ℕ → T → Type 0) (is_deaf : T → T → Type 0) (tells is_mute : T → List ℕ → T → Type 0)
-      → CrashesLeaveTold seen may_leave is_clean is_mixing hears is_deaf tells is_mute
-  crash_leaves hears is_deaf tells is_mute shows r d ending t e sat kept file leaves =
-      let told = told_kept hears is_deaf tells is_mute shows sat.rounds r d [] sat.behind sat.told sat.rest sat.sits kept in
-      last_left hears is_deaf tells is_mute shows ending sat.behind sat.told sat.rest t e told.0 sat.last file leaves
+  pub crash_leaves : (shows : Showings) {T : Type 0} (hears : T → List ℕ → T → Type 0) (is_deaf : T → T → Type 0) (tells is_mute : T → List ℕ → T → Type 0)
+      → CrashesLeaveTold shows seen may_leave is_clean is_mixing hears is_deaf tells is_mute
+  crash_leaves shows hears is_deaf tells is_mute r d ending t e sat kept file leaves =
+      let told = told_kept shows hears is_deaf tells is_mute sat.rounds r d [] sat.behind sat.told sat.rest sat.sits kept in
+      last_left shows hears is_deaf tells is_mute ending sat.behind sat.told sat.rest t e told.0 sat.last file leaves

@@ -34,10 +34,10 @@ BegunAreKept {D} seen may_leave is_clean =
     → IsKept seen may_leave is_clean recorder
 
 -- whenever more is asked for in a sitting, whoever shows what is wanted there, the session that was told so far is kept
-abbrev pub ToldAreKept : {D T : Type 0} → (D → List ℕ) → (D → List ℕ → Type 0) → (D → Bool) → (D → Bool) → (T → List ℕ → T → Type 0) → (T → T → Type 0)
+abbrev pub ToldAreKept : Showings → {D T : Type 0} → (D → List ℕ) → (D → List ℕ → Type 0) → (D → Bool) → (D → Bool) → (T → List ℕ → T → Type 0) → (T → T → Type 0)
     → (T → List ℕ → T → Type 0) → (T → List ℕ → T → Type 0) → Type 0
-ToldAreKept {D} {T} seen may_leave is_clean is_mixing hears is_deaf tells is_mute =
-    (shows : Showings) (rounds : List Round) (r : Recording SessionState D) (d : T) (line : List ℕ) (t : Recording SessionState D) (e : T) (rest : List ℕ)
+ToldAreKept shows {D} {T} seen may_leave is_clean is_mixing hears is_deaf tells is_mute =
+    (rounds : List Round) (r : Recording SessionState D) (d : T) (line : List ℕ) (t : Recording SessionState D) (e : T) (rest : List ℕ)
     → Sits (recorded_talk (answers shows) (λ s. s.script) seen may_leave is_clean is_mixing hears is_deaf tells is_mute) rounds r d line t e rest
     → IsKept seen may_leave is_clean r → IsKept seen may_leave is_clean t × IsBehind r.machine t.machine
 
@@ -52,9 +52,9 @@ pub record IsLeft {D : Type 0} (is_mixing : D → Bool) (told : SessionState) (f
   pub again : (manner : Manner) → state_of file ≢ Other → IsAgain manner session (session_on manner None file)
 
 -- whatever a sitting comes to, a crash leaves such a file of what it told
-abbrev pub CrashesLeaveTold : {D T : Type 0} → (D → List ℕ) → (D → List ℕ → Type 0) → (D → Bool) → (D → Bool) → (T → List ℕ → T → Type 0) → (T → T → Type 0)
+abbrev pub CrashesLeaveTold : Showings → {D T : Type 0} → (D → List ℕ) → (D → List ℕ → Type 0) → (D → Bool) → (D → Bool) → (T → List ℕ → T → Type 0) → (T → T → Type 0)
     → (T → List ℕ → T → Type 0) → (T → List ℕ → T → Type 0) → Type 0
-CrashesLeaveTold {D} {T} seen may_leave is_clean is_mixing hears is_deaf tells is_mute =
-    (shows : Showings) (r : Recording SessionState D) (d : T) (ending : Result Going SitFault) (t : Recording SessionState D) (e : T)
+CrashesLeaveTold shows {D} {T} seen may_leave is_clean is_mixing hears is_deaf tells is_mute =
+    (r : Recording SessionState D) (d : T) (ending : Result Going SitFault) (t : Recording SessionState D) (e : T)
     (sat : HasSat (recorded_talk (answers shows) (λ s. s.script) seen may_leave is_clean is_mixing hears is_deaf tells is_mute) r d ending t e)
     → IsKept seen may_leave is_clean r → (file : List ℕ) → may_leave t.file file → IsLeft is_mixing sat.behind.machine file

@@ -1,6 +1,7 @@
 ghost use Rattle.pf_session_laws.specs.Crashed.{BegunAreKept, CrashesLeaveTold, ToldAreKept};
 ghost use Rattle.pf_session_laws.specs.Resumed.{JournalsBeginAgain, ScriptsBeginAgain};
 
+use pf_session_lines::shows::Shows;
 use pf_stream::dialogue::dialogue::Dialogue;
 use sqlite_disk::Disk;
 
@@ -20,13 +21,13 @@ pub fn begun_are_kept<D: Disk>()
     ensures { BegunAreKept D.seen D.may_leave D.is_clean }
 {}
 
-/// Whenever more is asked for in a sitting, the session that was told so far is kept.
-pub fn told_are_kept<D: Disk, T: Dialogue>()
-    ensures { ToldAreKept D.seen D.may_leave D.is_clean D.is_mixing T.hears T.is_deaf T.tells T.is_mute }
+/// Whenever more is asked for in a sitting, whoever shows what is wanted there, the session that was told so far is kept.
+pub fn told_are_kept<V: Shows, D: Disk, T: Dialogue>()
+    ensures { ToldAreKept V.shows D.seen D.may_leave D.is_clean D.is_mixing T.hears T.is_deaf T.tells T.is_mute }
 {}
 
 /// Whatever such a sitting comes to, a crash leaves a journal that begins the session again as it was told, after some more lines maybe,
 /// each of them whole. On disks that leave each byte of a torn write as it was or as it was written, it opens.
-pub fn crashes_leave_told<D: Disk, T: Dialogue>()
-    ensures { CrashesLeaveTold D.seen D.may_leave D.is_clean D.is_mixing T.hears T.is_deaf T.tells T.is_mute }
+pub fn crashes_leave_told<V: Shows, D: Disk, T: Dialogue>()
+    ensures { CrashesLeaveTold V.shows D.seen D.may_leave D.is_clean D.is_mixing T.hears T.is_deaf T.tells T.is_mute }
 {}

@@ -11,8 +11,8 @@ use Rattle.pf_share.specs.Opening.{new_viewers}
 use Rattle.pf_share.specs.Reads.{Viewing, new_viewer}
 use Rattle.pf_share.specs.Stories.{Origin}
 
-pub boarded : (board : TableId) (terms : System) (n : ℕ) (ps : List (Passing Entry System)) → ps ≡ new_passes board terms n → AreOf board ps
-boarded board terms n ps e = subst (λ (l : List (Passing Entry System)). AreOf board l) (sym e) (new_are_of {E = Entry} board terms n)
+pub boarded : {E T : Type 0} (board : TableId) (terms : T) (n : ℕ) (ps : List (Passing E T)) → ps ≡ new_passes {E = E} board terms n → AreOf board ps
+boarded {E} {T} board terms n ps e = subst (λ (l : List (Passing E T)). AreOf board l) (sym e) (new_are_of {E = E} board terms n)
 
 new_on : (board : TableId) (terms : System) (n : ℕ) → All (λ (p : Passing Entry System). p.board ≡ board) (new_passes {E = Entry} board terms n)
 new_on board terms zero = All-nil (λ (p : Passing Entry System). p.board ≡ board)
