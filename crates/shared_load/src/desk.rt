@@ -13,7 +13,7 @@ use std::sync::Wait;
 /// # Errors
 ///
 /// As `Blank::open`.
-#[tactic(auto, using(crate::proofs::Opened::boarded, crate::proofs::Opened::on_board, crate::proofs::Opened::viewed))]
+#[tactic(auto, using(crate::proofs::Opened::on_board, crate::proofs::Opened::viewed))]
 pub(crate) fn open_desk<R: Wait>(
     rt: &R,
     alloc: Global,
