@@ -11,9 +11,9 @@ use Rattle.pf_run.specs.declared.denied.Denied.{Denied}
 use Rattle.pf_scenario.specs.Edit.{IsScenario}
 use Rattle.pf_engine.specs.Fits.{Kept}
 use Rattle.pf_timeline.specs.declared.checkpoint.Checkpoint.{Checkpoint}
-use Rattle.pf_timeline.specs.Checkpoints.{near_distance, near_slots}
+use Rattle.pf_timeline.specs.Checkpoints.{most_near, most_near_slots, near_distance, near_slots}
 use Rattle.pf_timeline.specs.Timeline.{KeptRun, StandsFor, AgreesBelow, past_below}
-use Rattle.pf_timeline.specs.Keeping.{Points, slot_at, next_due, last_at, points_up_to, Trims, kept_run, KeepsRun, KeepsTimeline, IsCheckpoint, FitRun, IsLastAt, IsLastOf}
+use Rattle.pf_timeline.specs.Keeping.{Points, slot_at, next_due, last_at, points_up_to, Trims, kept_run, KeepsRun, KeepsTimeline, IsCheckpoint, FitRun, AreFew, IsLastAt, IsLastOf}
 use Rattle.pf_timeline.proofs.Fronts.{front_keeps, point_now}
 use Rattle.pf_timeline.proofs.Grown.{row_each}
 use Rattle.pf_timeline.proofs.Past.{past_agrees, past_narrowed, same_fit, same_denials}
@@ -173,6 +173,42 @@ points_up_to_fit s q n t c of_s of_q below same fit = by_case (cases_lt t c.star
   by_case (inl before) = rw (lt-ltb t c.start before) (no_points q t c.every fit.apart)
   by_case (inr begun) = rw (le-ltb t c.start begun) (points_front s q n t c of_s of_q below begun same fit)
 
+-- Use: how many near ones there are.
+pub few_none : (n t every : ℕ) → AreFew n (record { start = t; every = every; points = [] })
+few_none n t every = record { few = omega arith; room = λ _. omega arith }
+
+pub few_kept : (s : Plan) (n : ℕ) (c c' : Points) (p : Checkpoint) → AreFew n c → ReachBeyond s n c' →
+    (next_due c ≤ n → c' ≡ record c { points = c.points ++ p ∷ [] }) → (n < next_due c → c' ≡ c) → AreFew n c'
+few_kept s n c c' p are reach due early = by_case (cases_lt n (next_due c)) where
+  by_case : (n < next_due c) ⊎ (next_due c ≤ n) → AreFew n c'
+  by_case (inl before) = subst (AreFew n) (sym (early before)) are
+  by_case (inr at) = record {
+    few = omega (arith, are.room at, ap (λ (d : Points). length d.points) (due at), length-append c.points (p ∷ []));
+    room = λ again. let beyond : n < next_due c' = reach.beyond in absurd (omega (arith, beyond, again));
+  }
+
+pub few_trimmed : (n : ℕ) (c : Points) → length c.points < most_near → AreFew n c
+few_trimmed n c less = record { few = omega (arith, less); room = λ _. less }
+
+pub few_front : (n t : ℕ) (c : Points) → 1 ≤ c.every → AreFew n c → t < next_due c → AreFew t (points_up_to t c)
+few_front n t c apart are below = by_case (cases_lt t c.start) where
+  by_case : (t < c.start) ⊎ (c.start ≤ t) → AreFew t (points_up_to t c)
+  by_case (inl before) = rw (lt-ltb t c.start before) (few_none t t c.every)
+  by_case (inr begun) =
+      let k = last_at c t in
+      let reach : t - c.start < length c.points * c.every = omega (arith, below, begun) in
+      let some : k < length c.points = (div-lt_iff_lt-mul apart).1 reach in
+      let long : length (take (k + 1) c.points) ≡ k + 1 = length-take-le (k + 1) c.points (omega arith) in
+      let next : t - c.start < (k + 1) * c.every = (div-lt_iff_lt-mul apart).0 (omega arith) in
+      rw (le-ltb t c.start begun) (record {
+        few = omega (arith, are.few, long, some);
+        room = λ again. absurd (omega (arith, again, next, begun, ap (λ x. x * c.every) long));
+      })
+
+-- Use: over how many slots they are.
+pub near_held : (s : Plan) (n : ℕ) (c : Points) → FitRun s n c → c.every ≡ near_distance → length c.points < most_near → n ≤ c.start + most_near_slots
+near_held s n c fit every less = omega (arith, fit.reach, ap (λ x. length c.points * x) every, less)
+
 -- Use: the checkpoint of an engine that fits the run, with the number of its denials.
 pub point_now_fits : (s : Plan) (n k : ℕ) (rows : List (List (Option Pick))) (denials : List Denied) (e : Kept) → KeepsRun s n rows denials e →
     k ≡ length denials → IsCheckpoint s n (record { engine = e; denials = k })
@@ -246,6 +282,9 @@ module _ (q s : Plan) (n from : ℕ) (rows : List (List (Option Pick))) (denials
   front_near =
       points_up_to_fit q s n p.engine.now near keeps.run.of_run.scenario of_s (omega (arith, now_is, before))
       (subst (λ (x : ℕ). past_below x q ≡ past_below x s) (sym now_is) past_there) keeps.near
+
+  pub front_few : AreFew p.engine.now (points_up_to p.engine.now near)
+  front_few = few_front n p.engine.now near keeps.near.apart keeps.few (omega (arith, now_is, before, keeps.near.reach))
 
 -- Use: which of them is the last one not after slot t.
 pub last_below : (c : Points) (t : ℕ) → 1 ≤ c.every → t < next_due c → c.start ≤ t → last_at c t < length c.points

@@ -8,7 +8,7 @@ use Rattle.pf_run.specs.Computed.{run_of}
 use Rattle.pf_run.specs.RunRows.{AreOfRun, denials_in}
 use Rattle.pf_engine.specs.Fits.{Kept, Fits}
 use Rattle.pf_timeline.specs.declared.checkpoint.Checkpoint.{Checkpoint}
-use Rattle.pf_timeline.specs.Checkpoints.{near_distance, near_slots}
+use Rattle.pf_timeline.specs.Checkpoints.{most_near, near_distance, near_slots}
 use Rattle.pf_timeline.specs.Timeline.{KeptRun, past_below}
 
 -- checkpoints: the slot of the first one, and how far they lie apart in slots
@@ -69,11 +69,17 @@ pub record FitRun (s : Plan) (n : ℕ) (c : Points) : Type 0 where
   pub begun : c.start ≤ n
   pub reach : n ≤ next_due c
 
+-- they are few, and one less where one is due at slot n
+pub record AreFew (n : ℕ) (c : Points) : Type 0 where
+  pub few : length c.points ≤ most_near
+  pub room : next_due c ≤ n → length c.points < most_near
+
 -- the run is kept, and the checkpoints fit it, those from slot 0 on and the near ones, which are the second
 pub record KeepsTimeline (s : Plan) (n : ℕ) (rows : List (List (Option Pick))) (denials : List Denied) (e : Kept) (c d : Points) : Type 0 where
   pub run : KeepsRun s n rows denials e
   pub points : FitRun s n c
   pub near : FitRun s n d
+  pub few : AreFew n d
   pub from_start : c.start ≡ 0
 
 -- number k of these checkpoints is the last one not after slot `from`

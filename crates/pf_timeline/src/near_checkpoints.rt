@@ -1,5 +1,5 @@
-ghost use Rattle.std.specs.Prelude.{◌≡◌, ◌<◌, ◌≤◌, ◌^◌, ◌∷◌, [], ◌++◌, IfOk, OnOk, OnErr};
-ghost use Rattle.pf_timeline.specs.Checkpoints.{near_distance};
+ghost use Rattle.std.specs.Prelude.{◌≡◌, ◌<◌, ◌≤◌, ◌^◌, ◌∷◌, [], ◌++◌, length, IfOk, OnOk, OnErr};
+ghost use Rattle.pf_timeline.specs.Checkpoints.{most_near, near_distance};
 ghost use Rattle.pf_timeline.specs.Keeping.{IsLastAt, IsLastOf, Trims, last_at, next_due, points_up_to};
 
 use crate::checkpoint::Checkpoint;
@@ -13,16 +13,16 @@ use std::mem::replace;
 /// How far near checkpoints lie apart, in slots.
 pub const NEAR_DISTANCE: u64 = 32;
 
-/// How many of the newer ones there are before the older ones go: those of 256 slots, and one more.
-const MOST: usize = 8;
+/// How many there are of the older ones at most, and of the newer ones: those of 256 slots, and one more.
+const MOST: usize = 9;
 
-/// The near checkpoints of a timeline: one each 32 slots, of the last 256 slots at least. A copy shares them.
+/// The near checkpoints of a timeline: one each 32 slots, of the last 256 slots at least, and at most 18. A copy shares them.
 pub struct NearCheckpoints {
     alloc: Global,
     /// The slot of the first one.
     start: u64,
     older: SharedList<Checkpoint>,
-    /// Those after the older ones.
+    /// Those after the older ones, once these are as many as they may be.
     newer: SharedList<Checkpoint>,
 }
 
@@ -39,13 +39,15 @@ impl Drop for NearCheckpoints {
 }
 
 impl Model for NearCheckpoints {
-    ghost use Rattle.std.specs.Prelude.{◌++◌};
+    ghost use Rattle.std.specs.Prelude.{◌≡◌, ◌⊎◌, ◌≤◌, ◌++◌, [], length};
     ghost use Rattle.pf_timeline.specs.Checkpoints.{near_distance};
     ghost use Rattle.pf_timeline.specs.Keeping.{Points};
 
     ghost Value = { Points };
 
     ghost view = { λ c. record { start = c.start; every = near_distance; points = c.older ++ c.newer } };
+
+    ghost invariant = { λ c. (length c.older ≤ 9) × ((c.newer ≡ []) ⊎ (length c.older ≡ 9)) };
 }
 
 impl NearCheckpoints {
@@ -88,16 +90,24 @@ impl NearCheckpoints {
             return Ok(());
         }
         let engine = engine.save()?;
-        self.newer.push(Checkpoint { engine, denials })?;
+        let point = Checkpoint { engine, denials };
+        if self.older.len() < MOST {
+            self.older.push(point)?;
+        } else {
+            self.newer.push(point)?;
+        }
         Ok(())
     }
 
     /// Lets the older ones go where the newer ones reach back 256 slots.
     pub fn trim(&mut self)
-        requires { next_due self.old < 2 ^ 64 }
-        ensures { Trims self.old self.new }
+        requires wide { next_due self.old < 2 ^ 64 }
+        requires few { length self.old.points ≤ most_near }
+        ensures trims { Trims self.old self.new }
+        ensures few { length self.new.points < most_near }
+        ensures every { self.new.every ≡ near_distance }
     {
-        if self.newer.len() <= MOST {
+        if self.newer.len() < MOST {
             return;
         }
         self.start += NEAR_DISTANCE * self.older.len() as u64;

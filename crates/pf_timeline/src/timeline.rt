@@ -4,7 +4,7 @@ ghost use Rattle.pf_order.specs.Counted.{CountsAtMost};
 ghost use Rattle.pf_scenario.specs.Scenario.{Plan};
 ghost use Rattle.pf_scenario.specs.Edit.{IsScenario};
 ghost use Rattle.pf_scenario.specs.Limits.{largest_distance};
-ghost use Rattle.pf_timeline.specs.Checkpoints.{near_distance, near_slots};
+ghost use Rattle.pf_timeline.specs.Checkpoints.{most_near_slots, near_distance, near_slots};
 ghost use Rattle.pf_timeline.specs.Comparisons.{most_comparisons_at};
 ghost use Rattle.pf_timeline.specs.Timeline.{StandsFor, AgreesBelow};
 ghost use Rattle.pf_timeline.specs.declared.fault.StepFault.TheVariants.{AtHorizon};
@@ -113,6 +113,7 @@ impl Timeline {
         ensures ok { OnOk result (StandsFor scenario.now (self.old.now + 1) self.new) }
         ensures every { self.new.every ≡ self.old.every }
         ensures near { OnOk result ((self.new.near ≡ self.old.near) ⊎ (self.new.near + near_slots ≤ self.old.now)) }
+        ensures held { OnOk result (self.new.now ≤ self.new.near + most_near_slots) }
         ensures horizon { (result ≡ Err AtHorizon) ↔ (self.old.now ≡ scenario.now.settings.horizon) }
         ensures err { OnErr result (self.new ≡ self.old) }
         ensures counted { OnOk result (meter.new.slots ≡ one_more meter.old.slots) }
@@ -139,6 +140,7 @@ impl Timeline {
         ensures ok { OnOk result (StandsFor scenario.now (self.old.now + 1) self.new) }
         ensures every { self.new.every ≡ self.old.every }
         ensures near { OnOk result ((self.new.near ≡ self.old.near) ⊎ (self.new.near + near_slots ≤ self.old.now)) }
+        ensures held { OnOk result (self.new.now ≤ self.new.near + most_near_slots) }
         ensures err { OnErr result (self.new ≡ self.old) }
         ensures counted { OnOk result (meter.new.slots ≡ one_more meter.old.slots) }
         ensures uncounted { OnErr result (meter.new ≡ meter.old) }

@@ -7,7 +7,7 @@ use Rattle.pf_timeline.proofs.Grown.{keeps_now, kept_now, keeps_more, takes_next
 use Rattle.pf_place.proofs.Blocks.{but_last_behind}
 use Rattle.pf_timeline.proofs.Comparing.{slot_compared}
 use Rattle.pf_timeline.proofs.Past.{keeps_standing, stands_kept}
-use Rattle.pf_timeline.proofs.Points.{point_kept, point_now_fits, points_longer, points_standing, points_trimmed, start_kept, start_moved, due_soon}
+use Rattle.pf_timeline.proofs.Points.{few_kept, few_trimmed, near_held, point_kept, point_now_fits, points_longer, points_standing, points_trimmed, start_kept, start_moved, due_soon}
 use Rattle.pf_timeline.proofs.timeline.Timeline.advance.Goals as goal
 use Rattle.pf_timeline.proofs.timeline.Timeline.advance.Goals.{After-drop-events-2}
 
@@ -69,6 +69,7 @@ invariant_of-self-in_err-keep-2 c =
       points = (point_kept _ _ _ _ _ c.self.invariant.points (point_now_fits _ _ _ _ _ _ c.self.invariant.run long)
           c.in_ok-keep.ensures.due c.in_ok-keep.ensures.early).fit;
       near = c.self.invariant.near;
+      few = c.self.invariant.few;
       from_start = start_kept _ _ _ _ c.in_ok-keep.ensures.due c.in_ok-keep.ensures.early ∙ c.self.invariant.from_start;
     })
 
@@ -82,6 +83,8 @@ invariant_of-self-in_err-push_idle c =
           c.in_ok-keep.ensures.due c.in_ok-keep.ensures.early).fit;
       near = (point_kept _ _ _ _ _ c.self.invariant.near (point_now_fits _ _ _ _ _ _ c.self.invariant.run long')
           c.in_ok-keep-2.ensures.due c.in_ok-keep-2.ensures.early).fit;
+      few = few_kept _ _ _ _ _ c.self.invariant.few (point_kept _ _ _ _ _ c.self.invariant.near (point_now_fits _ _ _ _ _ _ c.self.invariant.run long')
+          c.in_ok-keep-2.ensures.due c.in_ok-keep-2.ensures.early) c.in_ok-keep-2.ensures.due c.in_ok-keep-2.ensures.early;
       from_start = start_kept _ _ _ _ c.in_ok-keep.ensures.due c.in_ok-keep.ensures.early ∙ c.self.invariant.from_start;
     })
 
@@ -95,6 +98,8 @@ invariant_of-self-in-Err c =
           c.in_ok-keep.ensures.due c.in_ok-keep.ensures.early).fit;
       near = (point_kept _ _ _ _ _ c.self.invariant.near (point_now_fits _ _ _ _ _ _ c.self.invariant.run long')
           c.in_ok-keep-2.ensures.due c.in_ok-keep-2.ensures.early).fit;
+      few = few_kept _ _ _ _ _ c.self.invariant.few (point_kept _ _ _ _ _ c.self.invariant.near (point_now_fits _ _ _ _ _ _ c.self.invariant.run long')
+          c.in_ok-keep-2.ensures.due c.in_ok-keep-2.ensures.early) c.in_ok-keep-2.ensures.due c.in_ok-keep-2.ensures.early;
       from_start = start_kept _ _ _ _ c.in_ok-keep.ensures.due c.in_ok-keep.ensures.early ∙ c.self.invariant.from_start;
     })
 
@@ -117,7 +122,8 @@ invariant_of-self-2 c =
     rw c.of.ensures (record {
       run = keeps_now _ _ _ _ _ (keeps_next c);
       points = rw now (points_longer _ _ _ reach);
-      near = rw now (points_trimmed _ _ _ _ (near_more c) c.trim.ensures);
+      near = rw now (points_trimmed _ _ _ _ (near_more c) c.trim.ensures.trims);
+      few = few_trimmed _ _ c.trim.ensures.few;
       from_start = start_kept _ _ _ _ c.in_ok-keep.ensures.due c.in_ok-keep.ensures.early ∙ c.self.invariant.from_start;
     })
 
@@ -131,8 +137,8 @@ returns-clause-comparisons c =
     slot_compared _ _ _ _ _ keeps _ events _ _ (takes_slot _ _ _ _ _ keeps _ events _ _ c.in-Ok.ensures.slot) _ _
     c.in-Ok.ensures.comparisons
 
-pub trim-requires : goal.trim-requires
-trim-requires c =
+pub trim-requires-clause-wide : goal.trim-requires-clause-wide
+trim-requires-clause-wide c =
     let long = c.len-3.ensures ∙ ap length c.in_ok-reserve.ensures.items in
     let kept = point_kept _ _ _ _ _ c.self.invariant.near (point_now_fits _ _ _ _ _ _ c.self.invariant.run long)
     c.in_ok-keep-2.ensures.due c.in_ok-keep-2.ensures.early in
@@ -149,6 +155,22 @@ returns-clause-near c =
     let long = c.len-3.ensures ∙ ap length c.in_ok-reserve.ensures.items in
     let kept = point_kept _ _ _ _ _ c.self.invariant.near (point_now_fits _ _ _ _ _ _ c.self.invariant.run long)
     c.in_ok-keep-2.ensures.due c.in_ok-keep-2.ensures.early in
-    start_moved _ _ _ _ c.self.inside.near _ _ kept.fit c.trim.ensures
+    start_moved _ _ _ _ c.self.inside.near _ _ kept.fit c.trim.ensures.trims
     (start_kept _ _ _ _ c.in_ok-keep-2.ensures.due c.in_ok-keep-2.ensures.early)
     (ap (λ t. t.near) c.self.view_is) (ap (λ t. t.now) c.self.view_is)
+
+pub trim-requires-clause-few : goal.trim-requires-clause-few
+trim-requires-clause-few c =
+    let long = c.len-3.ensures ∙ ap length c.in_ok-reserve.ensures.items in
+    let kept = point_kept _ _ _ _ _ c.self.invariant.near (point_now_fits _ _ _ _ _ _ c.self.invariant.run long)
+    c.in_ok-keep-2.ensures.due c.in_ok-keep-2.ensures.early in
+    (few_kept _ _ _ _ _ c.self.invariant.few kept c.in_ok-keep-2.ensures.due c.in_ok-keep-2.ensures.early).few
+
+pub returns-clause-held : goal.returns-clause-held
+returns-clause-held c =
+    omega (
+      arith,
+      kept_now _ _ _ _ _ (keeps_next c),
+      ap (λ t. t.now) c.self.view_is,
+      near_held _ _ _ (points_trimmed _ _ _ _ (near_more c) c.trim.ensures.trims) c.trim.ensures.every c.trim.ensures.few,
+    )

@@ -1,7 +1,7 @@
 -- The engine is new, and there are no rows and no denials.
 use Rattle.std.proofs.Common.{sym, ap, ◌∙◌, arith}
 use Rattle.pf_timeline.proofs.Grown.{keeps_at_start, keeps_now, kept_now}
-use Rattle.pf_timeline.proofs.Points.{no_points}
+use Rattle.pf_timeline.proofs.Points.{few_none, no_points}
 use Rattle.pf_timeline.proofs.Past.{stands_kept, no_past}
 use Rattle.pf_timeline.proofs.timeline.Timeline.at_start.Goals as goal
 
@@ -14,6 +14,7 @@ invariant_of-result c =
       run = keeps_now _ _ _ _ _ keeps;
       points = rw (kept_now _ _ _ _ _ keeps, c.new-4.ensures) (no_points _ 0 _ c.requires);
       near = rw (kept_now _ _ _ _ _ keeps, c.new-5.ensures) (no_points _ 0 32 (omega arith));
+      few = rw (kept_now _ _ _ _ _ keeps, c.new-5.ensures) (few_none 0 0 32);
       from_start = ap (λ p. p.start) c.new-4.ensures;
     }
 

@@ -12,5 +12,6 @@ invariant_of-result c =
       run = keeps_now _ _ _ _ _ keeps;
       points = points_standing _ _ _ _ _ _ _ _ _ _ c.self.invariant.run c.self.view_is c.requires c.self.invariant.points;
       near = points_standing _ _ _ _ _ _ _ _ _ _ c.self.invariant.run c.self.view_is c.requires c.self.invariant.near;
+      few = c.self.invariant.few;
       from_start = c.self.invariant.from_start;
     })

@@ -2,7 +2,7 @@
 use Rattle.std.proofs.Common.{◌≡◌, ◌<◌, ◌≤◌, ap, ◌∙◌, arith}
 use Rattle.pf_timeline.specs.Timeline.{past_below}
 use Rattle.pf_timeline.proofs.Past.{stands_kept}
-use Rattle.pf_timeline.proofs.Points.{agreed_past, front_rows_few, front_not_behind, front_distance, front_close, front_run, front_points, front_near, start_up_to}
+use Rattle.pf_timeline.proofs.Points.{agreed_past, front_rows_few, front_not_behind, front_distance, front_close, front_run, front_points, front_near, front_few, start_up_to}
 use Rattle.pf_timeline.proofs.timeline.Timeline.front.Goals as goal
 
 pub first_rows-requires : goal.first_rows-requires
@@ -29,6 +29,7 @@ invariant_of-result c =
       run = front_run _ _ _ c.args.from _ _ _ _ _ c.self.invariant below c.settings.ensures.scenario same _ c.last_of-start.ensures;
       points = front_points _ _ _ c.args.from _ _ _ _ _ c.self.invariant below c.settings.ensures.scenario same _ c.last_of-start.ensures;
       near = front_near _ _ _ c.args.from _ _ _ _ _ c.self.invariant below c.settings.ensures.scenario same _ c.last_of-start.ensures;
+      few = front_few _ _ _ c.args.from _ _ _ _ _ c.self.invariant below c.settings.ensures.scenario same _ c.last_of-start.ensures;
       from_start = c.self.invariant.from_start;
     })
 
