@@ -1,6 +1,7 @@
 -- What is told where a file keeps no session's records.
 use Rattle.std.specs.Prelude.{⊤, ℕ, ◌≡◌, Bool, true, List, [], ◌++◌, Result, Ok, Err, codes}
 use Rattle.std.specs.Fmt.{decimal}
+use Rattle.std.specs.IoError.{error_kind}
 use Rattle.std.specs.declared.io.ErrorKind.{ErrorKind}
 use Rattle.std.specs.declared.io.ErrorKind.TheVariants as kind
 use Rattle.pf_vocabulary.specs.declared.fault.ending.Ending.{Ending}
@@ -28,6 +29,12 @@ fault_of_opening (opening.Failed kind) = fault_of_kind kind
 fault_of_opening (opening.FailedBeside kind.OutOfMemory) = NoMemory
 fault_of_opening (opening.FailedBeside other) = UnreadBeside other
 fault_of_opening opening.NoMemory = NoMemory
+
+-- of a file that was opened and not read
+abbrev pub fault_of_reading : JournalError → JournalFault
+fault_of_reading error.OutOfMemory = NoMemory
+fault_of_reading (error.File why) = fault_of_kind (error_kind why)
+fault_of_reading other = Unread kind.Other
 
 -- of a journal that was not opened or added to
 abbrev pub fault_of_adding : JournalError → JournalFault

@@ -1,6 +1,6 @@
 ghost use Rattle.std.specs.Prelude.{◌≡◌, ◌++◌, IfOk, OnOk};
 ghost use Rattle.pf_script.specs.FaultNotes.FileFaults.{file_fault_line, file_fault_of};
-ghost use Rattle.pf_journal_file.specs.Faults.{IsOutcome, IsUnhad, beside, damaged_line, fault_of_adding, fault_of_kind, fault_of_opening, fault_text, named_line, no_heading_line, note_behind, numbered_text, status_of};
+ghost use Rattle.pf_journal_file.specs.Faults.{IsOutcome, IsUnhad, beside, damaged_line, fault_of_adding, fault_of_kind, fault_of_opening, fault_of_reading, fault_text, named_line, no_heading_line, note_behind, numbered_text, status_of};
 
 use crate::journals::OpenFault;
 use pf_journal::journal_error::JournalError;
@@ -64,7 +64,8 @@ impl JournalFault {
 
     /// Why a file that was opened was not read.
     pub(crate) fn of_reading(error: JournalError) -> Self
-        ensures { IsUnhad result }
+        ensures fault { result ≡ fault_of_reading error }
+        ensures unhad { IsUnhad result }
     {
         match error {
             JournalError::OutOfMemory => JournalFault::NoMemory,
