@@ -4,6 +4,7 @@ renamed, replaced or cut meanwhile, long sessions.
 What is answered has to be in the file: as the file reads up to its first shut gate, `#`, behind which a crash may leave anything.
 """
 import contextlib
+import fcntl
 import os
 import shutil
 import subprocess
@@ -187,6 +188,33 @@ def in_use(program):
     return None if given == wanted else f"a journal in use: {given}"
 
 
+def locked(program):
+    """What is wrong where another program has locked the file by flock."""
+    with tempfile.TemporaryDirectory() as name:
+        path = Path(name) / "kept"
+        path.write_text(AT_REST)
+        with path.open("rb+") as file:
+            fcntl.flock(file, fcntl.LOCK_EX)
+            done = run_to_end([program, "desk", "--journal", str(path)], "desk: a journal that is locked", input=b"step\n")
+        given = (done.returncode, done.stdout, done.stderr.decode(), path.read_text())
+    return None if given == (3, b"", f"{path} is in use\n", AT_REST) else f"a journal that is locked: {given}"
+
+
+def lost_at_rest(program, what, lose):
+    """What is wrong where this becomes of a journal that was at rest, before the first record of a session."""
+    with tempfile.TemporaryDirectory() as name:
+        path = Path(name) / "kept"
+        path.write_text(AT_REST)
+        session = Session(program, ["--journal", str(path)], [])
+        note = session.run.stderr.readline().decode()
+        lose(path)
+        left = files_in(path.parent)
+        session.write(b"step\n")
+        given = (note, session.line(), session.end(), files_in(path.parent) == left)
+    wanted = (f"{path}: 3 records, 1 events, 1 slots\n", "", (b"", f"cannot write {path}\n".encode(), 3), True)
+    return None if given == wanted else f"a journal at rest that is {what}: {given}"
+
+
 def side_file(program):
     """What is wrong where the file beside a journal can't be made: it is the one that is named."""
     with tempfile.TemporaryDirectory() as name:
@@ -197,6 +225,9 @@ def side_file(program):
     given = (done.returncode, done.stdout, done.stderr.decode())
     return None if given == (3, b"", f"cannot read the journal\n{path}-wal: cannot be read\n") else f"a file beside a journal: {given}"
 
+
+# A journal of three records, as a session leaves it.
+AT_REST = " plan,1\n settings,1,2\n join,0,1,1,2\n step\n#"
 
 TYPED = ("settings 1 2", "join 0 1 1 2", "step", "join 1 2 1 2", "stepp", "limit 1 0", "undo", "step")
 
@@ -353,9 +384,11 @@ def long_session(program):
 def journal_failures(program):
     """What is wrong with journals that are in use, that are lost, that fail, and that get long."""
     yield in_use(program)
+    yield locked(program)
     yield side_file(program)
     yield long_journal(program)
     for what, lose in LOSSES.items():
         yield lost_file(program, what, lose)
+        yield lost_at_rest(program, what, lose)
     yield from failing_files(program)
     yield long_session(program)
