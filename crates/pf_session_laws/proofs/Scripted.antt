@@ -327,7 +327,7 @@ begun_scripted s begun = by begun.is
     by (inl e) = subst (λ (q : SessionState). IsScripted q) (sym e) is
     by (inr e) = subst (λ (q : SessionState). IsScripted q) (sym e) (anew_scripted begun.session is)
 
-behind_scripted : (before s : SessionState) → IsBehind before s → IsScripted before → IsScripted s
+behind_scripted : (before s : SessionState) → IsBehind anything before s → IsScripted before → IsScripted s
 behind_scripted before s behind is = answers_scripted behind.lines before behind.text s behind.answered is
 
 -- Use: so it is of each session.

@@ -39,14 +39,14 @@ abbrev pub ToldAreKept : Showings → {D T : Type 0} → (D → List ℕ) → (D
 ToldAreKept shows {D} {T} seen may_leave is_clean is_mixing hears is_deaf tells is_mute =
     (rounds : List Round) (r : Recording SessionState D) (d : T) (line : List ℕ) (t : Recording SessionState D) (e : T) (rest : List ℕ)
     → Sits (recorded_talk (answers shows) (λ s. s.script) seen may_leave is_clean is_mixing hears is_deaf tells is_mute) rounds r d line t e rest
-    → IsKept seen may_leave is_clean r → IsKept seen may_leave is_clean t × IsBehind r.machine t.machine
+    → IsKept seen may_leave is_clean r → IsKept seen may_leave is_clean t × IsBehind shows r.machine t.machine
 
 -- a file has the records of a session that was told, or of one after it that answered some more lines; it opens, where the disks are
 -- mixing, and begins that one again
-pub record IsLeft {D : Type 0} (is_mixing : D → Bool) (told : SessionState) (file : List ℕ) : Type 0 where
+pub record IsLeft (shows : Showings) {D : Type 0} (is_mixing : D → Bool) (told : SessionState) (file : List ℕ) : Type 0 where
   pub session : SessionState
   pub is : IsSession session
-  pub behind : IsBehind told session
+  pub behind : IsBehind shows told session
   pub records : HasRecords file session
   pub opens : IsMixing is_mixing → IsOpenable file
   pub again : (manner : Manner) → state_of file ≢ Other → IsAgain manner session (session_on manner None file)
@@ -57,4 +57,4 @@ abbrev pub CrashesLeaveTold : Showings → {D T : Type 0} → (D → List ℕ) �
 CrashesLeaveTold shows {D} {T} seen may_leave is_clean is_mixing hears is_deaf tells is_mute =
     (r : Recording SessionState D) (d : T) (ending : Result Going SitFault) (t : Recording SessionState D) (e : T)
     (sat : HasSat (recorded_talk (answers shows) (λ s. s.script) seen may_leave is_clean is_mixing hears is_deaf tells is_mute) r d ending t e)
-    → IsKept seen may_leave is_clean r → (file : List ℕ) → may_leave t.file file → IsLeft is_mixing sat.behind.machine file
+    → IsKept seen may_leave is_clean r → (file : List ℕ) → may_leave t.file file → IsLeft shows is_mixing sat.behind.machine file

@@ -24,17 +24,17 @@ pub record IsBegun (s : SessionState) : Type 0 where
 abbrev pub anything : Showings
 anything wanted script made = ⊤
 
--- a session that answered some lines, whatever it showed
-pub record IsBehind (before s : SessionState) : Type 0 where
+-- a session that answered some lines, and showed what `shows` says
+pub record IsBehind (shows : Showings) (before s : SessionState) : Type 0 where
   pub lines : List (List ℕ)
   pub text : List ℕ
-  pub answered : AnswersAll (answers anything) before lines text s
+  pub answered : AnswersAll (answers shows) before lines text s
 
--- a session that began, and answered some lines
+-- a session that began, and answered some lines, whatever it showed
 pub record IsSession (s : SessionState) : Type 0 where
   pub first : SessionState
   pub begun : IsBegun first
-  pub behind : IsBehind first s
+  pub behind : IsBehind anything first s
 
 -- the same session begun again: its settings and its desk, the names and the labels stay, and so does its script; what there is to take
 -- back and whether a line was bad begin anew, and where there are no settings the heading may come again
