@@ -124,8 +124,12 @@ pub cause_of : {D : Type 0} (seen : D → List ℕ) (faults : D → ℕ) (is_cle
     → HasCause seen faults is_clean some error mid new → HasCause seen faults is_clean lines error old new
 cause_of seen faults is_clean lines some error old mid new same any (inl long) = inl long
 cause_of seen faults is_clean lines some error old mid new same any (inr (inl line)) = inr (inl (line.0, any line.1))
-cause_of seen faults is_clean lines some error old mid new same any (inr (inr more)) =
-    inr (inr (subst (λ (n : ℕ). MoreFaults n (faults new)) same more))
+cause_of seen faults is_clean lines some error old mid new same any (inr (inr failed)) =
+    inr (inr (record {
+      why = failed.why;
+      is = failed.is;
+      more = subst (λ (n : ℕ). MoreFaults n (faults new)) same failed.more;
+    }))
 
 -- the lines of a text have no LF
 behind_all : (line text : List ℕ) → is_text line ≡ true → list_all is_text (whole_behind line text) ≡ true

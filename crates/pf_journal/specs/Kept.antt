@@ -1,10 +1,11 @@
 -- A journal that lines may be added to, and a file as it was found.
 use Rattle.std.specs.Prelude.{◌≡◌, ◌⊎◌, ◌≤◌, ◌^◌, ℕ, Bool, true, not, IsTrue, List, [], length, Option, None, Some}
 use Rattle.std.specs.List.{list_any}
+use Rattle.std.specs.declared.io.Error.{Error}
 use Rattle.sqlite_disk.specs.Disk.{MoreFaults, Only}
 use Rattle.pf_journal.specs.Batches.{has_room}
 use Rattle.pf_journal.specs.declared.journal_error.JournalError.{JournalError}
-use Rattle.pf_journal.specs.declared.journal_error.JournalError.TheVariants.{Damaged as DamagedAt, LongLine, NoHeading, TooLong}
+use Rattle.pf_journal.specs.declared.journal_error.JournalError.TheVariants.{Damaged as DamagedAt, File, LongLine, NoHeading, OutOfMemory, TooLong}
 use Rattle.pf_journal.specs.declared.state.State.{State}
 use Rattle.pf_journal.specs.declared.state.State.TheVariants as file
 use Rattle.pf_journal.specs.Lines.{damaged_record, state_of}
@@ -26,6 +27,12 @@ pub record IsKept {D : Type 0} (seen : D → List ℕ) (may_leave : D → List �
   pub settled : IsSettled seen may_leave is_usable is_clean journal.disk
   pub at_rest : IsTrue (is_clean journal.disk) → IsAtRest (seen journal.disk) journal.size
 
+-- a call of the file failed, and the error is what it answered
+pub record HasFailed {D : Type 0} (faults : D → ℕ) (error : JournalError) (old new : D) : Type 0 where
+  pub why : Error
+  pub is : error ≡ File why
+  pub more : MoreFaults (faults old) (faults new)
+
 -- why lines were not put: the journal is too long, one of them is, or a call of the file failed
 pub record IsTooLong {D : Type 0} (seen : D → List ℕ) (is_clean : D → Bool) (error : JournalError) (new : D) : Type 0 where
   pub is : error ≡ TooLong
@@ -35,7 +42,7 @@ abbrev pub HasCause : {D : Type 0} → (D → List ℕ) → (D → ℕ) → (D �
 HasCause seen faults is_clean lines error old new =
     IsTooLong seen is_clean error new
     ⊎ ((error ≡ LongLine) × (list_any (λ line. not (has_room [] line)) lines ≡ true))
-    ⊎ MoreFaults (faults old) (faults new)
+    ⊎ HasFailed faults error old new
 
 abbrev pub found_disk : {D : Type 0} → Found D → D
 found_disk found = found.disk
@@ -60,4 +67,13 @@ abbrev pub IsUnopened : {D : Type 0} → (D → ℕ) → List ℕ → D → Jour
 IsUnopened faults bytes old error new =
     ((state_of bytes ≡ file.Other) × (error ≡ NoHeading))
     ⊎ ((state_of bytes ≡ file.Damaged) × (error ≡ DamagedAt (damaged_record bytes)))
-    ⊎ MoreFaults (faults old) (faults new)
+    ⊎ HasFailed faults error old new
+
+-- why a file was not read: memory was refused, or a call of it failed
+abbrev pub IsUnread : {D : Type 0} → (D → ℕ) → JournalError → D → D → Type 0
+IsUnread faults error old new = (error ≡ OutOfMemory) ⊎ HasFailed faults error old new
+
+-- why a file as it was found keeps no answers: memory was refused, it is not opened, or these lines were not put there
+abbrev pub IsUnkept : {D : Type 0} → (D → List ℕ) → (D → ℕ) → (D → Bool) → List ℕ → List (List ℕ) → JournalError → D → D → Type 0
+IsUnkept seen faults is_clean bytes lines error old new =
+    (error ≡ OutOfMemory) ⊎ IsUnopened faults bytes old error new ⊎ HasCause seen faults is_clean lines error old new

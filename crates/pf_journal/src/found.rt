@@ -1,9 +1,8 @@
 ghost use Rattle.std.specs.Prelude.{◌≡◌, ◌⊎◌, ℕ, List, length, IsTrue, IfOk, IfErr, IsErrAnd, OnOk};
-ghost use Rattle.sqlite_disk.specs.Disk.{MoreFaults};
 ghost use Rattle.pf_journal.specs.Lines.{damaged_record, state_of, script_of, torn_size, records_of};
 ghost use Rattle.pf_journal.specs.Crash.{IsOpenable};
-ghost use Rattle.pf_journal.specs.Kept.{IsUnopened, IsSettled, IsKept, IsFound, disk_of, found_disk, found_bytes, refusal_at};
-ghost use Rattle.pf_journal.specs.declared.journal_error.JournalError.TheVariants.{Damaged as DamagedAt, NoHeading, OutOfMemory};
+ghost use Rattle.pf_journal.specs.Kept.{IsUnopened, IsUnread, IsSettled, IsKept, IsFound, disk_of, found_disk, found_bytes, refusal_at};
+ghost use Rattle.pf_journal.specs.declared.journal_error.JournalError.TheVariants.{Damaged as DamagedAt, NoHeading};
 ghost use Rattle.pf_journal.specs.declared.state.State.TheVariants.{Damaged, Other};
 
 use crate::contents::Contents;
@@ -25,6 +24,10 @@ pub struct Found<D: Disk> {
 
 impl<D: Disk + Drop> Found<D> {
     /// Reads a file, once all of it is on the disk.
+    ///
+    /// # Errors
+    ///
+    /// `File` where a call of the file failed, and `OutOfMemory` where memory is refused, with the file.
     pub fn read(alloc: Global, disk: D) -> Result<Found<D>, Failed<D>>
         requires { IsTrue (D.Disk.is_usable disk) }
         ensures found { IfOk result (λ found. IsFound D.Disk.seen D.Disk.may_leave D.Disk.is_usable D.Disk.is_clean found) }
@@ -33,7 +36,7 @@ impl<D: Disk + Drop> Found<D> {
         ensures kept { IfErr result (λ failed. D.Disk.seen failed.disk ≡ D.Disk.seen disk) }
 
         // It doesn't give up by itself.
-        ensures failed { IfErr result (λ failed. (failed.error ≡ OutOfMemory) ⊎ MoreFaults (D.Disk.faults disk) (D.Disk.faults failed.disk)) }
+        ensures failed { IfErr result (λ failed. IsUnread D.Disk.faults failed.error disk failed.disk) }
         ensures faults { IfOk result (λ found. D.Disk.faults (found_disk found) ≡ D.Disk.faults disk) }
         ensures crash { IfErr result (λ failed. (c : List ℕ) → D.Disk.may_leave failed.disk c → D.Disk.may_leave disk c) }
     {
@@ -180,7 +183,7 @@ fn read_all<D: Disk>(alloc: Global, disk: &mut D) -> Result<Vec<u8>, JournalErro
     ensures bytes { IfOk result (λ bytes. IsTrue (D.is_clean disk.new) → bytes.items ≡ D.seen disk.old) }
     ensures settled { OnOk result (IsSettled D.seen D.may_leave D.is_usable D.is_clean disk.new) }
     ensures clean { IsTrue (D.is_clean disk.new) → IsTrue (D.is_clean disk.old) }
-    ensures failed { IfErr result (λ error. (error ≡ OutOfMemory) ⊎ MoreFaults (D.faults disk.old) (D.faults disk.new)) }
+    ensures failed { IfErr result (λ error. IsUnread D.faults error disk.old disk.new) }
     ensures faults { OnOk result (D.faults disk.new ≡ D.faults disk.old) }
     ensures seen { D.seen disk.new ≡ D.seen disk.old }
     ensures crash { (c : List ℕ) → D.may_leave disk.new c → D.may_leave disk.old c }

@@ -1,11 +1,10 @@
 ghost use Rattle.std.specs.Prelude.{◌≡◌, ◌⊎◌, ◌++◌, ◌∷◌, [], ◌^◌, ◌≤◌, ℕ, List, true, false, not, length, IsTrue, OnOk, IfErr};
 ghost use Rattle.std.specs.List.{list_any};
-ghost use Rattle.sqlite_disk.specs.Disk.{MoreFaults};
 ghost use Rattle.pf_journal.specs.Batches.{has_room};
 ghost use Rattle.pf_journal.specs.Lines.{is_text, journal_of, records_of, texts_of};
 ghost use Rattle.pf_journal.specs.Texts.{whole_lines};
 ghost use Rattle.pf_journal.specs.Crash.{IsAdded, IsBeforeOrAfter, IsMixing, IsOpenable, IsWithFront};
-ghost use Rattle.pf_journal.specs.Kept.{HasCause, IsKept, IsTooLong, disk_of};
+ghost use Rattle.pf_journal.specs.Kept.{HasCause, HasFailed, IsKept, IsTooLong, disk_of};
 ghost use Rattle.pf_journal.specs.declared.journal_error.JournalError.TheVariants.{OutOfMemory};
 
 use crate::batch::Batch;
@@ -45,7 +44,7 @@ impl<D: Disk> Journal<D> {
 
         // It doesn't give up by itself.
         ensures failed { IfErr result (λ error. IsTooLong D.seen D.is_clean error (disk_of self.new)
-            ⊎ MoreFaults (D.faults (disk_of self.old)) (D.faults (disk_of self.new))) }
+            ⊎ HasFailed D.faults error (disk_of self.old) (disk_of self.new)) }
         ensures faults { OnOk result (D.faults (disk_of self.new) ≡ D.faults (disk_of self.old)) }
     {
         self.put_gated(batch.bytes())
@@ -117,7 +116,7 @@ impl<D: Disk> Journal<D> {
             → (c : List ℕ) → D.may_leave (disk_of self.new) c → IsOpenable c }
         ensures calm { D.is_clean (disk_of self.new) ≡ D.is_clean (disk_of self.old) }
         ensures failed { IfErr result (λ error. IsTooLong D.seen D.is_clean error (disk_of self.new)
-            ⊎ MoreFaults (D.faults (disk_of self.old)) (D.faults (disk_of self.new))) }
+            ⊎ HasFailed D.faults error (disk_of self.old) (disk_of self.new)) }
         ensures faults { OnOk result (D.faults (disk_of self.new) ≡ D.faults (disk_of self.old)) }
     {
         if self.size >= MOST_BYTES {

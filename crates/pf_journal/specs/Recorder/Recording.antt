@@ -1,7 +1,8 @@
 -- What answers lines, beside the file that has what was answered.
-use Rattle.std.specs.Prelude.{ℕ, ◌≡◌, Bool, true, IsTrue, List, [], ◌∷◌, ◌++◌, drop, Option, None, is_some}
+use Rattle.std.specs.Prelude.{ℕ, ◌≡◌, Bool, true, IsTrue, List, [], ◌∷◌, ◌++◌, drop, Option, None, Some, is_some}
 use Rattle.sqlite_disk.specs.Disk.{Only}
 use Rattle.pf_journal.specs.Crash.{IsMixing, IsOpenable, IsWithFront}
+use Rattle.pf_journal.specs.Kept.{HasCause}
 use Rattle.pf_journal.specs.Lines.{records_of}
 use Rattle.pf_journal.specs.Texts.{whole_lines}
 use Rattle.pf_journal.specs.declared.journal_error.JournalError.{JournalError}
@@ -53,6 +54,12 @@ pub record Loses {S D : Type 0} (seen : D → List ℕ) (may_leave : D → List 
       → IsWithFront (records_of (seen r.file)) (whole_lines r.waiting) c
   pub opens : r.lost ≡ None → IsTrue (is_clean r.file) → IsMixing is_mixing → (c : List ℕ) → may_leave t.file c → IsOpenable c
   pub same : is_some r.lost ≡ true → (t.file ≡ r.file) × (t.lost ≡ r.lost)
+
+-- why it is not all there, in a file that took more until then
+pub record LosesFor {S D : Type 0} (seen : D → List ℕ) (faults : D → ℕ) (is_clean : D → Bool) (r t : Recording S D) : Type 0 where
+  pub error : JournalError
+  pub lost_is : t.lost ≡ Some error
+  pub cause : HasCause seen faults is_clean (whole_lines r.waiting) error r.file t.file
 
 -- the records of a script: its lines after the heading
 abbrev pub records_in : List ℕ → List (List ℕ)

@@ -1,7 +1,8 @@
-ghost use Rattle.std.specs.Prelude.{◌≡◌, ◌++◌, [], ℕ, List, IsTrue, IfErr, IfOk};
+ghost use Rattle.std.specs.Prelude.{◌≡◌, ◌⊎◌, ◌++◌, [], ℕ, List, IsTrue, IfErr, IfOk};
 ghost use Rattle.pf_journal.specs.Crash.{IsBeforeOrAfter, IsMixing, IsOpenable};
-ghost use Rattle.pf_journal.specs.Kept.{IsFound, IsKept, disk_of, found_bytes, found_disk};
+ghost use Rattle.pf_journal.specs.Kept.{HasCause, IsFound, IsKept, IsUnkept, disk_of, found_bytes, found_disk};
 ghost use Rattle.pf_journal.specs.Lines.{records_of};
+ghost use Rattle.pf_journal.specs.declared.journal_error.JournalError.TheVariants.{OutOfMemory};
 ghost use Rattle.pf_journal.specs.Texts.{whole_lines};
 ghost use Rattle.pf_journal.specs.Recorder.Recording.{BeginsWith, added_to, records_in};
 
@@ -31,6 +32,10 @@ impl<S: Scripted + Drop, D: Disk + Drop> Recorder<S, D> {
             → IsBeforeOrAfter (records_of (found_bytes found)) (added_to (records_of (found_bytes found)) (S.script machine)) c) }
         ensures opens { IfErr result (λ failed. IsMixing D.Disk.is_mixing → IsOpenable (found_bytes found) → IsTrue (D.Disk.is_clean (found_disk found))
             → (c : List ℕ) → D.Disk.may_leave failed.disk c → IsOpenable c) }
+
+        // It doesn't give up by itself.
+        ensures failed { IfErr result (λ failed. IsUnkept D.Disk.seen D.Disk.faults D.Disk.is_clean (found_bytes found)
+            (added_to (records_of (found_bytes found)) (S.script machine)) failed.error (found_disk found) failed.disk) }
     {
         let batch = match Batch::new(alloc) {
             Ok(batch) => batch,
@@ -63,6 +68,8 @@ fn open_with<D: Disk + Drop>(
         → IsBeforeOrAfter (records_of (found_bytes found)) (added_to (records_of (found_bytes found)) script.now) c) }
     ensures opens { IfErr result (λ failed. IsMixing D.Disk.is_mixing → IsOpenable (found_bytes found) → IsTrue (D.Disk.is_clean (found_disk found))
         → (c : List ℕ) → D.Disk.may_leave failed.disk c → IsOpenable c) }
+    ensures failed { IfErr result (λ failed. IsUnkept D.Disk.seen D.Disk.faults D.Disk.is_clean (found_bytes found)
+        (added_to (records_of (found_bytes found)) script.now) failed.error (found_disk found) failed.disk) }
 {
     let begins = found.records() == 0;
     let journal = match found.open() {
@@ -94,6 +101,8 @@ fn put_all<D: Disk + Drop>(
         → IsBeforeOrAfter [] (whole_lines text.now) c) }
     ensures opens { IfErr result (λ failed. IsMixing D.Disk.is_mixing → IsTrue (D.Disk.is_clean (disk_of journal))
         → (c : List ℕ) → D.Disk.may_leave failed.disk c → IsOpenable c) }
+    ensures failed { IfErr result (λ failed. (failed.error ≡ OutOfMemory)
+        ⊎ HasCause D.Disk.seen D.Disk.faults D.Disk.is_clean (whole_lines text.now) failed.error (disk_of journal) failed.disk) }
 {
     match journal.put_whole(alloc, text) {
         Ok(()) => Ok(journal),

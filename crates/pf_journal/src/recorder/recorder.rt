@@ -67,7 +67,8 @@ impl<S: Scripted, D: Disk> Recorder<S, D> {
 }
 
 impl<S: Scripted, D: Disk> Answers for Recorder<S, D> {
-    ghost use Rattle.pf_journal.specs.Recorder.Recording.{Answers, Keeps, Loses, Stops};
+    ghost use Rattle.std.specs.Prelude.{◌≡◌, None, OnErr, OnOk};
+    ghost use Rattle.pf_journal.specs.Recorder.Recording.{Answers, Keeps, Loses, LosesFor, Stops};
 
     ghost answers = { λ r line text going t. Answers S.answers S.script r line text going t };
 
@@ -89,7 +90,13 @@ impl<S: Scripted, D: Disk> Answers for Recorder<S, D> {
         Ok(going)
     }
 
-    fn keep(&mut self) -> Result<(), Unkept> {
+    fn keep(&mut self) -> Result<(), Unkept>
+        ensures ok { OnOk result (Keeps D.seen D.may_leave D.is_clean self.old self.new) }
+        ensures err { OnErr result (Loses D.seen D.may_leave D.is_clean D.is_mixing self.old self.new) }
+
+        // It doesn't give up by itself.
+        ensures failed { OnErr result (self.old.lost ≡ None → LosesFor D.seen D.faults D.is_clean self.old self.new) }
+    {
         if self.fault.is_some() {
             return Err(Unkept);
         }
