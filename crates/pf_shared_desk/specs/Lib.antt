@@ -1,0 +1,4 @@
+pub mod Calling
+pub mod Kept
+pub mod Opening
+pub mod Reading
