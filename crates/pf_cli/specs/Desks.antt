@@ -11,7 +11,7 @@ use Rattle.pf_stream.specs.HeldAnswers.Streams.{Hears, IsDeaf, IsMute, Streams, 
 use Rattle.pf_script_notes.specs.Faults.{IsFaultNote}
 use Rattle.pf_session.specs.Session.{SessionState, at_start}
 use Rattle.pf_session_turns.specs.Opening.{IsOpened, opened}
-use Rattle.pf_session_views.specs.Shown.{Shows}
+use Rattle.pf_session_views.specs.Held.{SessionShows}
 use Rattle.pf_session_turns.specs.Sitters.{answers, keeps, loses, stops}
 use Rattle.pf_stream.specs.Dialogue.Sits.{HasSat, Talk, talk_of}
 use Rattle.pf_stream.specs.declared.dialogue.answers.Going.{Going}
@@ -58,7 +58,7 @@ pub record HasSatDown {A : Type 0} (talk : Talk A Streams) (came : Result Going 
 
 -- of one without a journal
 abbrev pub talk_alone : Talk SessionState Streams
-talk_alone = talk_of (answers Shows) stops keeps loses Hears IsDeaf Tells IsMute
+talk_alone = talk_of (answers SessionShows) stops keeps loses Hears IsDeaf Tells IsMute
 
 abbrev pub CameToAlone : Result Going SitFault → SessionState → Result Ending Fault → Type 0
 CameToAlone going behind outcome = CameTo going behind.has_bad outcome

@@ -20,7 +20,7 @@ use Rattle.pf_journal.specs.Recorder.Recording.{Answers as Records, Keeps, Loses
 use Rattle.pf_script_notes.specs.Faults.{IsFaultNote}
 use Rattle.pf_session_turns.specs.Opening.{IsOpened}
 use Rattle.pf_session.specs.Session.{SessionState}
-use Rattle.pf_session_views.specs.Shown.{Shows}
+use Rattle.pf_session_views.specs.Held.{SessionShows}
 use Rattle.pf_session_turns.specs.Sitters.{answers}
 use Rattle.pf_stream.specs.Dialogue.Sits.{Talk, talk_of}
 use Rattle.pf_stream.specs.declared.dialogue.answers.Going.{Going}
@@ -35,7 +35,7 @@ use Rattle.pf_cli.specs.declared.noted.Noted.{Noted}
 -- lines are answered as without a journal; what their script gets is in the file before the answers are written
 abbrev pub talk_kept : {D : Type 0} → (D → List ℕ) → (D → List ℕ → Type 0) → (D → Bool) → (D → Bool) → Talk (Recording SessionState D) Streams
 talk_kept seen may_leave is_clean is_mixing =
-    talk_of (λ r line text going t. Records (answers Shows) (λ s. s.script) r line text going t) (λ r t. Stops r t) (λ r t. Keeps seen may_leave is_clean r t)
+    talk_of (λ r line text going t. Records (answers SessionShows) (λ s. s.script) r line text going t) (λ r t. Stops r t) (λ r t. Keeps seen may_leave is_clean r t)
     (λ r t. Loses seen may_leave is_clean is_mixing r t) Hears IsDeaf Tells IsMute
 
 -- what a sitting came to: where what was answered could not be kept, the sentence and the status of why

@@ -23,7 +23,7 @@ use pf_session::session::Session;
 use pf_session_turns::files::{FileSaver, Locks};
 use pf_session_turns::opening::open_script;
 use pf_session_turns::sitter::Sitter;
-use pf_session_views::script_views::ScriptViews;
+use pf_session_views::desk_views::DeskViews;
 use pf_stream::held_answers::hold::hold;
 use pf_stream::pipes::pipe::Pipe;
 use pf_stream::sink::Sink;
@@ -100,7 +100,7 @@ fn hold_alone<H: AllocGlobal + Locks + Wait, R: Source, W: Pipe, F: Sink>(
 {
     match begin(rt, words) {
         Ok(session) => {
-            let mut sitter = Sitter::new(session, FileSaver::new(rt), ScriptViews);
+            let mut sitter = Sitter::new(session, FileSaver::new(rt), DeskViews);
             sit_down(rt, &mut sitter, prompts, reader, writer, faults)
         }
         Err(Unbegun { fault, notes }) => {
@@ -119,7 +119,7 @@ fn hold_alone<H: AllocGlobal + Locks + Wait, R: Source, W: Pipe, F: Sink>(
 /// Answers the lines that come in, and then tells what that came to.
 fn sit_down<H: AllocGlobal + Locks + Wait, R: Source, W: Pipe, F: Sink>(
     rt: &H,
-    sitter: &mut Sitter<FileSaver<'_, H>, ScriptViews>,
+    sitter: &mut Sitter<FileSaver<'_, H>, DeskViews>,
     prompts: bool,
     reader: &mut R,
     writer: &mut W,

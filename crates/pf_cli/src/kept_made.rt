@@ -25,7 +25,7 @@ use pf_journal_session::unopened::Unopened;
 use pf_script_notes::behind_fault::fault_note;
 use pf_session_turns::files::{FileSaver, Locks};
 use pf_session_turns::sitter::Sitter;
-use pf_session_views::script_views::ScriptViews;
+use pf_session_views::desk_views::DeskViews;
 use pf_vocabulary::fault::fault::Fault;
 use std::alloc::{AllocError, Global};
 
@@ -33,7 +33,7 @@ use std::alloc::{AllocError, Global};
 #[derive(Drop)]
 pub(crate) struct Made<'a, H: AllocGlobal + Locks, D: Disk> {
     /// Who answers, and keeps what was answered.
-    pub(crate) recorder: Recorder<Sitter<FileSaver<'a, H>, ScriptViews>, D>,
+    pub(crate) recorder: Recorder<Sitter<FileSaver<'a, H>, DeskViews>, D>,
     /// What is told of the journal.
     pub(crate) note: Vec<u8>,
 }
@@ -107,7 +107,7 @@ fn make_with<'a, H: AllocGlobal + Locks, D: Disk + Drop>(
         manner,
         script,
         FileSaver::new(rt),
-        ScriptViews,
+        DeskViews,
     ) {
         Ok(opened) => with_note(rt.alloc(), words, path, opened),
         Err(unopened) => Err(noted_of(rt.alloc(), words, path, script, unopened)),
@@ -123,7 +123,7 @@ fn with_note<'a, H: AllocGlobal + Locks, D: Disk + Drop>(
     alloc: Global,
     words: &DeskWords,
     path: &str,
-    opened: Opened<FileSaver<'a, H>, ScriptViews, D>,
+    opened: Opened<FileSaver<'a, H>, DeskViews, D>,
 ) -> Result<Made<'a, H, D>, Noted>
     ensures made { IfOk result (λ m. (m.recorder ≡ opened.entry.recorder) × (m.note.items ≡ told_sizes words.now.quiet path.now opened.entry.sizes)) }
     ensures unmade { IfErr result (λ n. DoesNotBeginOn (manner_of (desk_named words.now)) (desk_named words.now).script path.now n) }

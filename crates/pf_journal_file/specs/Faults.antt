@@ -10,6 +10,7 @@ use Rattle.pf_vocabulary.specs.declared.fault.fault.Fault.TheVariants as why
 use Rattle.pf_vocabulary.specs.declared.fault.status.Status.{Status}
 use Rattle.pf_vocabulary.specs.declared.fault.status.Status.TheVariants as status
 use Rattle.pf_script.specs.FaultNotes.FileFaults.{file_fault_line, file_fault_of}
+use Rattle.pf_journal.specs.Kept.{IsUnread}
 use Rattle.pf_journal.specs.declared.journal_error.JournalError.{JournalError}
 use Rattle.pf_journal.specs.declared.journal_error.JournalError.TheVariants as error
 use Rattle.pf_journal_file.specs.declared.journal_fault.JournalFault.{JournalFault}
@@ -44,6 +45,13 @@ fault_of_adding error.NoHeading = NoHeading
 fault_of_adding (error.Damaged line) = Damaged line
 fault_of_adding error.LongLine = LongRecord
 fault_of_adding error.OutOfMemory = NoMemory
+
+-- a file that was opened was not read: memory was refused, or a call of the file failed, which it then counts
+pub record IsUnreadFor {D : Type 0} (faults : D → ℕ) (file : D) (fault : JournalFault) : Type 0 where
+  pub error : JournalError
+  pub left : D
+  pub unread : IsUnread faults error file left
+  pub fault_is : fault ≡ fault_of_reading error
 
 -- a file could not be had: it is in use, it or the file beside it can't be opened or read, or memory was refused
 abbrev pub IsUnhad : JournalFault → Type 0

@@ -1,5 +1,6 @@
-ghost use Rattle.std.specs.Prelude.{◌≡◌, IfOk};
-ghost use Rattle.pf_journal_file.specs.Hosts.{fault_of_host};
+ghost use Rattle.std.specs.Prelude.{◌≡◌, IfErr, IfOk};
+ghost use Rattle.std.specs.declared.io.ErrorKind.{ErrorKind};
+ghost use Rattle.pf_journal_file.specs.Hosts.{fault_of_host, fault_of_watching};
 ghost use Rattle.pf_journal_file.specs.Watches.{IsFresh, inner_of};
 
 use crate::journals::{Journals, OpenFault};
@@ -58,12 +59,22 @@ fn watch_of<'r>(
     file: FileFrom<Unknown>,
     path: &str,
 ) -> Result<Watch<'r, FileFrom<Unknown>>, OpenFault>
-    ensures { IfOk result (λ w. (inner_of w ≡ file) × IsFresh w) }
+    ensures watch { IfOk result (λ w. (inner_of w ≡ file) × IsFresh w) }
+    ensures unwatched { IfErr result (λ fault. (kind : ErrorKind) × (fault ≡ fault_of_watching kind)) }
 {
     match Watch::new(rt, file, path) {
         Ok(watch) => Ok(watch),
-        Err(fault) if fault.kind() == ErrorKind::WouldBlock => Err(OpenFault::Busy),
-        Err(fault) => Err(OpenFault::Failed(fault.kind())),
+        Err(fault) => Err(fault_of_watching(fault.kind())),
+    }
+}
+
+/// Why a file that was opened is not watched, by the kind of the failure.
+fn fault_of_watching(kind: ErrorKind) -> OpenFault
+    ensures { result ≡ fault_of_watching kind }
+{
+    match kind {
+        ErrorKind::WouldBlock => OpenFault::Busy,
+        _ => OpenFault::Failed(kind),
     }
 }
 

@@ -1,6 +1,6 @@
 ghost use Rattle.std.specs.Prelude.{IsTrue, IfErr, IfOk};
 ghost use Rattle.pf_journal.specs.Kept.{IsFound};
-ghost use Rattle.pf_journal_file.specs.Faults.{IsUnhad};
+ghost use Rattle.pf_journal_file.specs.Faults.{IsUnhad, IsUnreadFor};
 
 use crate::journal_fault::JournalFault;
 use pf_journal::failed::Failed;
@@ -61,6 +61,9 @@ fn read_found<D: Disk + Drop>(alloc: Global, file: D) -> Result<Found<D>, Journa
     requires { IsTrue (D.Disk.is_usable file) }
     ensures found { IfOk result (λ found. IsFound D.Disk.seen D.Disk.may_leave D.Disk.is_usable D.Disk.is_clean found) }
     ensures unhad { IfErr result IsUnhad }
+
+    // It doesn't give up by itself.
+    ensures unread { IfErr result (IsUnreadFor D.Disk.faults file) }
 {
     match Found::read(alloc, file) {
         Ok(found) => Ok(found),

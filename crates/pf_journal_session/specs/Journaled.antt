@@ -1,19 +1,19 @@
 -- A session that begins on a file.
-use Rattle.std.specs.Prelude.{ℕ, ◌≡◌, ◌⊎◌, Bool, true, false, Option, None, Some, is_some, Result, Ok, Err, List, [], ◌∷◌}
+use Rattle.std.specs.Prelude.{ℕ, ◌≡◌, ◌⊎◌, Bool, true, false, not, Option, None, Some, is_some, Result, Ok, Err, List, [], ◌∷◌}
+use Rattle.std.specs.List.{list_any}
 use Rattle.pf_answers.specs.declared.manner.Manner.{Manner}
 use Rattle.pf_vocabulary.specs.declared.fault.fault.Fault.{Fault}
+use Rattle.pf_journal.specs.Batches.{has_room}
 use Rattle.pf_journal.specs.Lines.{damaged_record, records_of, script_of, state_of, torn_size}
-use Rattle.pf_journal.specs.declared.journal_error.JournalError.{JournalError}
 use Rattle.pf_journal.specs.declared.state.State.{State}
 use Rattle.pf_journal.specs.declared.state.State.TheVariants as file
 use Rattle.pf_journal_file.specs.declared.journal_fault.JournalFault.{JournalFault}
-use Rattle.pf_journal_file.specs.declared.journal_fault.JournalFault.TheVariants.{Damaged, HasRecords, NoHeading, NoMemory}
-use Rattle.pf_journal_file.specs.Faults.{fault_of_adding}
+use Rattle.pf_journal_file.specs.declared.journal_fault.JournalFault.TheVariants.{Damaged, HasRecords, LongRecord, NoHeading, NoMemory, Unwritten}
 use Rattle.pf_journal_file.specs.Sizes.{sizes_of}
 use Rattle.pf_journal_file.specs.declared.sizes.Sizes.{Sizes}
 use Rattle.pf_journal_session.specs.declared.unopened.Unopened.{Unopened}
 use Rattle.pf_journal_session.specs.declared.unopened.Unopened.TheVariants.{Journal, Record, Script}
-use Rattle.pf_journal.specs.Recorder.Recording.{BeginsWith, Recording}
+use Rattle.pf_journal.specs.Recorder.Recording.{BeginsWith, Recording, added_to}
 use Rattle.pf_session_turns.specs.Opening.{IsOpened, opened}
 use Rattle.pf_session.specs.Session.{SessionState, at_start}
 
@@ -65,11 +65,16 @@ pub record Begins {D : Type 0} (seen : D → List ℕ) (may_leave : D → List �
   pub begun : IsBegunOn manner script bytes session
   pub kept : IsKeptOn seen may_leave is_clean session file bytes recorder sizes
 
--- the file can't be opened or written
-abbrev pub IsUnwritten : Unopened → Type 0
-IsUnwritten (Journal fault) = (error : JournalError) × (fault ≡ fault_of_adding error)
-IsUnwritten (Record fault lines) = ⊥
-IsUnwritten (Script fault) = ⊥
+-- the records that a file with these bytes gets of a session, one of which is longer than a record of a journal may be
+abbrev pub HasLong : List ℕ → SessionState → Type 0
+HasLong bytes session = list_any (λ line. not (has_room [] line)) (added_to (records_of bytes) session.script) ≡ true
+
+-- the file can't be opened or written: memory was refused, it took no more, a record is too long for it, or it is none for a session
+abbrev pub IsUnwritten : List ℕ → SessionState → Unopened → Type 0
+IsUnwritten bytes session (Journal fault) =
+    (fault ≡ NoMemory) ⊎ (fault ≡ Unwritten) ⊎ ((fault ≡ LongRecord) × HasLong bytes session) ⊎ (refused_file false bytes ≡ Some fault)
+IsUnwritten bytes session (Record fault lines) = ⊥
+IsUnwritten bytes session (Script fault) = ⊥
 
 -- its records were not carried out, or those of the script, for this fault; or memory was refused for telling
 abbrev pub IsUnbegun : Bool → List ℕ → Fault → Unopened → Type 0
@@ -77,11 +82,17 @@ IsUnbegun has_script bytes why (Journal fault) = fault ≡ NoMemory
 IsUnbegun has_script bytes why (Record fault lines) = (has_script ≡ false) × (fault ≡ why) × (lines.items ≡ script_of bytes)
 IsUnbegun has_script bytes why (Script fault) = (has_script ≡ true) × (fault ≡ why)
 
+-- a file that is one for a session was not opened or written: memory was refused, it took no more, or a record of its session is too long
+abbrev pub IsUntaken : Manner → Option (List ℕ) → List ℕ → JournalFault → Type 0
+IsUntaken manner script bytes fault =
+    (fault ≡ NoMemory) ⊎ (fault ≡ Unwritten)
+    ⊎ ((fault ≡ LongRecord) × (session : SessionState) × IsBegunOn manner script bytes session × HasLong bytes session)
+
 -- none began: the file is none for it, or could not be opened or written; or a record is bad
 abbrev pub DoesNotBegin : Manner → Option (List ℕ) → List ℕ → Unopened → Type 0
 DoesNotBegin manner script bytes (Journal fault) =
     (refused_file (is_some script) bytes ≡ Some fault)
-    ⊎ ((refused_file (is_some script) bytes ≡ None) × ((fault ≡ NoMemory) ⊎ ((error : JournalError) × (fault ≡ fault_of_adding error))))
+    ⊎ ((refused_file (is_some script) bytes ≡ None) × IsUntaken manner script bytes fault)
 DoesNotBegin manner script bytes (Record fault lines) =
     (is_some script ≡ false) × (lines.items ≡ script_of bytes) × IsOpened (session_on manner script bytes) (Err fault)
 DoesNotBegin manner script bytes (Script fault) = (is_some script ≡ true) × IsOpened (session_on manner script bytes) (Err fault)

@@ -13,7 +13,7 @@ use pf_journal::state::State;
 use pf_journal_file::journal_fault::JournalFault;
 use pf_journal_file::sizes::Sizes;
 use pf_session::session::Session;
-use pf_session_lines::shows::Shows;
+use pf_session::shows::Shows;
 use pf_session_turns::opening::open_script;
 use pf_session_turns::saver::Saver;
 use pf_session_turns::sitter::Sitter;
@@ -38,6 +38,7 @@ pub struct Opened<S: Saver, V: Shows, D: Disk> {
 /// `Journal` with `NoHeading` where the file is no journal, with `Damaged` where it is damaged, with `HasRecords` where a script is given and it has records, else where it
 /// can't be opened or written; `Record` where a record of the file is bad, and `Script` where one of the script is, or where memory is
 /// refused meanwhile. Nothing was written to the file, but where it could not be written.
+#[tactic(auto, using(crate::proofs::Untaken::untaken_of))]
 pub fn open_journal<S: Saver + Drop, V: Shows + Drop, D: Disk + Drop>(
     alloc: Global,
     found: Found<D>,
@@ -144,6 +145,7 @@ fn unbegun<D: Disk + Drop>(
 /// # Errors
 ///
 /// `Journal` where the file can't be opened or written.
+#[tactic(auto, using(crate::proofs::Untaken::unwritten_of))]
 fn keep_session<S: Saver + Drop, V: Shows + Drop, D: Disk + Drop>(
     alloc: Global,
     found: Found<D>,
@@ -153,7 +155,7 @@ fn keep_session<S: Saver + Drop, V: Shows + Drop, D: Disk + Drop>(
 ) -> Result<Opened<S, V, D>, Unopened>
     requires { IsFound D.Disk.seen D.Disk.may_leave D.Disk.is_usable D.Disk.is_clean found }
     ensures kept { IfOk result (λ o. IsKeptOn D.Disk.seen D.Disk.may_leave D.Disk.is_clean session (found_disk found) (found_bytes found) o.recorder o.sizes) }
-    ensures unkept { IfErr result IsUnwritten }
+    ensures unkept { IfErr result (IsUnwritten (found_bytes found) session) }
 {
     let sizes = Sizes::of(&session, found.torn_bytes() as u64);
     session.forget_made();

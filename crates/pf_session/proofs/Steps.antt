@@ -1,5 +1,5 @@
 -- Steps that are taken one after another.
-use Rattle.std.proofs.Common.{◌≡◌, ℕ, ◌+◌, List, [], ◌∷◌, ◌++◌, refl, sym, ap, ap₂, ◌∙◌, replicate, append_assoc, append-nil}
+use Rattle.std.proofs.Common.{◌≡◌, ◌⊎◌, ◌<◌, inl, inr, arith, ℕ, ◌+◌, List, [], ◌∷◌, ◌++◌, refl, sym, ap, ap₂, ◌∙◌, replicate, append_assoc, append-nil}
 use Rattle.std.specs.List.{flat_map}
 use Rattle.std.proofs.lemmas.List.{replicate_more}
 use Rattle.std.proofs.lemmas.Grind.{flat_map-append}
@@ -9,6 +9,7 @@ use Rattle.pf_desk.specs.declared.command.Command.{Command}
 use Rattle.pf_desk.specs.declared.command.Command.TheVariants.{Step}
 use Rattle.pf_desk.specs.declared.reply.Reply.{Reply}
 use Rattle.pf_plain_script.specs.Carried.{state_behind}
+use Rattle.pf_session.specs.Amid.{IsAmidSteps}
 
 behind-append : (st : State) (xs ys : List Command) → state_behind st (xs ++ ys) ≡ state_behind (state_behind st xs) ys
 behind-append st [] ys = refl
@@ -48,3 +49,19 @@ state_more st at after turn is more =
     ∙ ap (λ s. state_behind s (Step ∷ [])) is
     ∙ sym (behind-append st (replicate turn Step) (Step ∷ []))
     ∙ ap (state_behind st) (replicate_more turn Step)
+
+-- Use: a step was not taken, for want of memory, or not told.
+pub amid_at : (st at after : State) (turn count : ℕ) → at ≡ state_behind st (replicate turn Step) → turn < count
+    → ((0 < turn) × (after ≡ at)) ⊎ (after ≡ state_behind at (Step ∷ [])) → IsAmidSteps st count after
+amid_at st at after turn count is left (inl before) = record {
+  taken = turn;
+  some = omega (arith, before.0);
+  within = omega (arith, left);
+  state = before.1 ∙ is;
+}
+amid_at st at after turn count is left (inr more) = record {
+  taken = turn + 1;
+  some = omega arith;
+  within = omega (arith, left);
+  state = state_more st at after turn is more;
+}

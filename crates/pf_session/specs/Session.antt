@@ -11,15 +11,19 @@ use Rattle.pf_script.specs.declared.line.Line.TheVariants.{Edit, Steps}
 use Rattle.pf_script.specs.Plan.Progress.{with_label}
 use Rattle.pf_script.specs.declared.plan.said.Said.{Said}
 use Rattle.pf_script.specs.declared.plan.said.Said.TheVariants.{Settings, Slot, Name, Asks}
+use Rattle.pf_replies.specs.Course.{ScriptCourse}
+use Rattle.pf_session.specs.Held.{held_behind}
+use Rattle.pf_vocabulary.specs.declared.names.named.Named.{Named}
 use Rattle.pf_session.specs.Made.{change_line, made_behind, made_behind_undo, number_made, taking_back}
 use Rattle.pf_session.specs.declared.made.Made.{Made}
 
--- how it answers; whether no record was good so far; the course of its script, and that script's text; the changes that were made
--- and are not taken back, the last one last; and whether a line was bad
+-- how it answers; whether no record was good so far; the course of its script, how far its desk is, after the settings, and that
+-- script's text; the changes that were made and are not taken back, the last one last; and whether a line was bad
 pub record SessionState : Type 0 where
   pub manner : Manner
   pub is_first : Bool
   pub course : Course
+  pub held : Option ScriptCourse
   pub script : List ℕ
   pub made : List Made
   pub has_bad : Bool
@@ -29,6 +33,7 @@ at_start manner = record {
   manner = manner;
   is_first = true;
   course = start;
+  held = None;
   script = codes "plan,1\n";
   made = [];
   has_bad = false;
@@ -53,6 +58,7 @@ behind_record s said line = record {
   manner = s.manner;
   is_first = false;
   course = course_behind s.course said;
+  held = held_behind s.held said;
   script = s.script ++ line;
   made = made_behind_said s.course.desk said s.made;
   has_bad = s.has_bad;
@@ -81,6 +87,7 @@ behind_undo_of s (Some st) (Some newest) = record {
   manner = s.manner;
   is_first = s.is_first;
   course = course_behind s.course (Asks (Edit (taking_back newest) false) None);
+  held = held_behind s.held (Asks (Edit (taking_back newest) false) None);
   script = s.script ++ change_line (taking_back newest);
   made = made_behind_undo newest (number_made (reply_to st (command.Edit (taking_back newest) false))) s.made;
   has_bad = s.has_bad;
@@ -88,6 +95,10 @@ behind_undo_of s (Some st) (Some newest) = record {
 
 abbrev pub behind_undo : SessionState → SessionState
 behind_undo s = behind_undo_of s s.course.desk (newest_of s.made)
+
+-- with these names of tasks
+abbrev pub with_names : SessionState → List Named → SessionState
+with_names s names = record s { course = record s.course { progress = record s.course.progress { names = names } } }
 
 -- after a bad line
 abbrev pub behind_bad : SessionState → SessionState

@@ -1,5 +1,6 @@
-ghost use Rattle.std.specs.Prelude.{◌≡◌, IfOk, OnErr};
+ghost use Rattle.std.specs.Prelude.{IfOk, OnErr};
 ghost use Rattle.pf_session.specs.Edits.{AreSame, HasChanged};
+ghost use Rattle.pf_session.specs.Held.{IsThere};
 
 use crate::edit_answer::edit_answer;
 use crate::made::number_made;
@@ -16,7 +17,7 @@ use std::alloc::{AllocError, Global};
 ///
 /// # Errors
 ///
-/// Where memory is refused: the desk's state and both texts are as before.
+/// Where memory is refused: the desk is where it was, and both texts are as before.
 pub(crate) fn change_desk(
     alloc: Global,
     manner: Manner,
@@ -28,9 +29,9 @@ pub(crate) fn change_desk(
     script: &mut Vec<u8>,
     text: &mut Vec<u8>,
 ) -> Result<Option<u64>, AllocError>
-    ensures ok { IfOk result (λ number. HasChanged manner names.now desk.old.state change strict number desk.new.state
+    ensures ok { IfOk result (λ number. HasChanged manner names.now desk.old change strict number desk.new
         script.old.items line.now text.old.items script.new.items text.new.items) }
-    ensures desk { OnErr result (desk.new.state ≡ desk.old.state) }
+    ensures desk { OnErr result (IsThere desk.old desk.new) }
     ensures same { OnErr result (AreSame script.old.items text.old.items script.new.items text.new.items) }
 {
     let mut meter = Meter::new();

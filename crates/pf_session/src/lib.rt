@@ -9,6 +9,7 @@ mod open;
 mod pair;
 pub mod session;
 mod session_desk;
+pub mod shows;
 mod step;
 pub mod stop;
 mod take_record;

@@ -1,5 +1,6 @@
 ghost use Rattle.std.specs.Prelude.{◌≡◌, IfOk};
-ghost use Rattle.pf_desk.specs.Machine.{opening_state};
+ghost use Rattle.pf_replies.specs.Course.{course_at};
+ghost use Rattle.pf_session.specs.Held.{course_opened};
 
 use crate::session_desk::SessionDesk;
 use pf_desk::desk::Desk;
@@ -10,7 +11,7 @@ use std::alloc::{AllocError, Global};
 
 /// A desk with these settings.
 pub(crate) fn open_desk(alloc: Global, opening: ScriptSettings) -> Result<SessionDesk, AllocError>
-    ensures { IfOk result (λ desk. desk.state ≡ opening_state opening.settings) }
+    ensures { IfOk result (λ desk. course_at desk ≡ course_opened opening) }
 {
     let every = opening.every.clamp(1, LARGEST_DISTANCE);
     match Desk::open(alloc, opening.settings, every) {

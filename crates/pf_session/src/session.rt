@@ -8,8 +8,11 @@ use pf_answers::shown::push_shown;
 use pf_answers::telling::{push_told, taken};
 use pf_desk::desk::Desk;
 use pf_script::plan::state::Progress;
+use pf_vocabulary::names::names::Names;
+use pf_vocabulary::names::titles::Titles;
 use std::alloc::{AllocError, Global};
 use std::marker::Model;
+use std::mem;
 
 /// A session at a desk.
 #[derive(Drop)]
@@ -31,6 +34,7 @@ pub struct Session {
 
 impl Model for Session {
     ghost use Rattle.std.specs.Option.{option_map};
+    ghost use Rattle.pf_replies.specs.Course.{course_at};
     ghost use Rattle.pf_session.specs.Session.{SessionState};
 
     ghost Value = { SessionState };
@@ -39,6 +43,7 @@ impl Model for Session {
       manner = s.manner;
       is_first = s.is_first;
       course = record { progress = s.progress; desk = option_map (λ d. d.state) s.desk };
+      held = option_map course_at s.desk;
       script = s.script.items;
       made = s.made.items;
       has_bad = s.has_bad;
@@ -51,7 +56,9 @@ impl Session {
     ghost use Rattle.pf_answers.specs.Bad.{bad_text};
     ghost use Rattle.pf_answers.specs.Shown.{shown_text};
     ghost use Rattle.pf_answers.specs.Telling.{taken_text, told_text};
-    ghost use Rattle.pf_session.specs.Session.{at_start, behind_bad};
+    ghost use Rattle.pf_replies.specs.Course.{course_at};
+    ghost use Rattle.pf_plain_script.specs.Plain.{titles_of};
+    ghost use Rattle.pf_session.specs.Session.{at_start, behind_bad, with_names};
 
     /// A session without a line so far.
     ///
@@ -108,12 +115,32 @@ impl Session {
 
     /// Its desk, after the settings.
     pub fn desk(&self) -> Option<&Desk>
-        ensures { option_map (λ d. d.now.state) result ≡ self.now.course.desk }
+        ensures state { option_map (λ d. d.now.state) result ≡ self.now.course.desk }
+        ensures course { option_map (λ d. course_at d.now) result ≡ self.now.held }
     {
         match &self.desk {
             Some(desk) => Some(desk.as_desk()),
             None => None,
         }
+    }
+
+    /// Lends what the script tells of its tasks and slots, until it is handed back.
+    pub fn lend_titles(&mut self) -> Titles
+        ensures titles { result ≡ titles_of self.old.course.progress }
+        ensures session { self.new ≡ with_names self.old [] }
+    {
+        Titles {
+            is_plan: true,
+            names: mem::replace(&mut self.progress.names, Names::new(self.alloc)),
+            slot: self.progress.slot,
+        }
+    }
+
+    /// Takes titles back that were lent.
+    pub fn take_titles(&mut self, titles: Titles)
+        ensures { self.new ≡ with_names self.old titles.names }
+    {
+        self.progress.names = titles.names;
     }
 
     /// The script of the records that were good so far, after its heading.

@@ -1,10 +1,10 @@
 ghost use Rattle.std.specs.Prelude.{◌≡◌, ◌≤◌, ◌∷◌, [], IfOk, IfSome, OnErr, OnOk};
 ghost use Rattle.pf_answers.specs.Changes.{counts_of};
-ghost use Rattle.pf_desk.specs.Desk.{AnswersCaller, IsAsBefore, IsReadyFor, MakesReady};
+ghost use Rattle.pf_desk.specs.Desk.{IsAsBefore, IsReadyFor, MakesReady};
 ghost use Rattle.pf_desk.specs.Machine.{reply_to};
 ghost use Rattle.pf_desk.specs.declared.command.Command.TheVariants as command;
-ghost use Rattle.pf_plain_script.specs.Carried.{state_behind};
 ghost use Rattle.pf_report.specs.Replies.{HasFewPlaces};
+ghost use Rattle.pf_session.specs.Held.{HasAnswered, IsThere};
 
 use pf_answers::counts::Counts;
 use pf_desk::command::Command;
@@ -71,12 +71,12 @@ impl SessionDesk {
     ///
     /// # Errors
     ///
-    /// Where memory is refused: the desk's state is as before.
+    /// Where memory is refused: the desk is where it was.
     pub(crate) fn step(&mut self, meter: &mut Meter) -> Result<Reply, AllocError>
         ensures reply { IfOk result (λ reply. reply ≡ reply_to self.old.state command.Step) }
-        ensures state { OnOk result (self.new.state ≡ state_behind self.old.state (command.Step ∷ [])) }
+        ensures answered { OnOk result (HasAnswered (command.Step ∷ []) self.old self.new) }
         ensures places { IfOk result (λ reply. HasFewPlaces reply) }
-        ensures err { OnErr result (self.new.state ≡ self.old.state) }
+        ensures err { OnErr result (IsThere self.old self.new) }
     {
         self.counts = None;
         Ok(self.desk.apply(meter, CALLER, Command::Step)?)
@@ -108,7 +108,7 @@ impl SessionDesk {
         requires room { 1 ≤ self.old.spare }
         requires counted { IfSome counts (λ c. c ≡ counts_of prepared.seen.state) }
         ensures reply { result ≡ prepared.entry.reply }
-        ensures answers { AnswersCaller prepared.entry.caller prepared.entry.command self.old result self.new }
+        ensures answered { HasAnswered (prepared.entry.command ∷ []) self.old self.new }
     {
         let reply = self.desk.commit(prepared);
         self.counts = counts;

@@ -1,4 +1,4 @@
-ghost use Rattle.std.specs.Prelude.{◌≡◌, ◌++◌, ◌∷◌, [], replicate, Err, IfOk, OnErr, OnOk};
+ghost use Rattle.std.specs.Prelude.{◌≡◌, ◌⊎◌, ◌<◌, ◌==◌, ◌++◌, ◌∷◌, [], if◌then◌else◌, replicate, Err, IfOk, OnErr, OnOk};
 ghost use Rattle.std.specs.List.{flat_map};
 ghost use Rattle.pf_answers.specs.Steps.{refused_of, replies_from, step_text, steps_end};
 ghost use Rattle.pf_desk.specs.declared.command.Command.TheVariants.{Step};
@@ -6,7 +6,9 @@ ghost use Rattle.pf_desk.specs.Machine.{reply_to};
 ghost use Rattle.pf_report.specs.Replies.{HasFewPlaces};
 ghost use Rattle.pf_plain_script.specs.Carried.{state_behind};
 ghost use Rattle.pf_session.specs.Answers.{steps_answer};
+ghost use Rattle.pf_session.specs.Amid.{IsAmidSteps};
 ghost use Rattle.pf_session.specs.Edits.{AreLonger};
+ghost use Rattle.pf_session.specs.Held.{HasAnswered, IsThere};
 ghost use Rattle.pf_session.specs.declared.stop.Stop.TheVariants as stop;
 
 use crate::session_desk::SessionDesk;
@@ -45,8 +47,9 @@ fn add_step(
     answer: &mut Vec<u8>,
 ) -> Result<(), Stop>
     ensures text { OnOk result (answer.new.items ≡ answer.old.items ++ step_text json first (reply_to desk.old.state Step)) }
-    ensures state { OnOk result (desk.new.state ≡ state_behind desk.old.state (Step ∷ [])) }
-    ensures err { result ≡ Err stop.NoMemory → (desk.new.state ≡ desk.old.state) × (turn ≡ 0) }
+    ensures answered { OnOk result (HasAnswered (Step ∷ []) desk.old desk.new) }
+    ensures err { result ≡ Err stop.NoMemory → IsThere desk.old desk.new × (turn ≡ 0) }
+    ensures lost { result ≡ Err stop.Lost → ((0 < turn) × (desk.new.state ≡ desk.old.state)) ⊎ (desk.new.state ≡ state_behind desk.old.state (Step ∷ [])) }
 {
     match desk.step(meter) {
         Ok(reply) => push_reply(answer, json, first, &reply),
@@ -75,8 +78,9 @@ fn take_steps(
     answer: &mut Vec<u8>,
 ) -> Result<(), Stop>
     ensures text { OnOk result (answer.new.items ≡ answer.old.items ++ flat_map (step_text json first) (replies_from desk.old.state (replicate count Step))) }
-    ensures state { OnOk result (desk.new.state ≡ state_behind desk.old.state (replicate count Step)) }
-    ensures err { result ≡ Err stop.NoMemory → desk.new.state ≡ desk.old.state }
+    ensures answered { OnOk result (HasAnswered (replicate count Step) desk.old desk.new) }
+    ensures err { result ≡ Err stop.NoMemory → IsThere desk.old desk.new }
+    ensures lost { result ≡ Err stop.Lost → IsAmidSteps desk.old.state count desk.new.state }
 {
     let mut meter = Meter::new();
     for turn in 0..count {
@@ -87,7 +91,7 @@ fn take_steps(
 
 /// Why steps end that want memory after so many of them.
 fn stop_at(turn: u64) -> Stop
-    ensures { result ≡ stop.NoMemory → turn ≡ 0 }
+    ensures { result ≡ if turn == 0 then stop.NoMemory else stop.Lost }
 {
     if turn == 0 {
         Stop::NoMemory
@@ -111,11 +115,35 @@ fn finish(
     text.extend_from_slice(answer)
 }
 
+/// Takes steps, appends what each adds and the end of the answer, and then the answer to a text.
+fn take_and_tell(
+    alloc: Global,
+    manner: Manner,
+    desk: &mut SessionDesk,
+    steps: StepsAsked,
+    answer: &mut Vec<u8>,
+    text: &mut Vec<u8>,
+) -> Result<(), Stop>
+    ensures answered { OnOk result (HasAnswered (replicate steps.count Step) desk.old desk.new) }
+    ensures text { OnOk result (text.new.items ≡ text.old.items
+        ++ ((answer.old.items ++ flat_map (step_text manner.json steps.first) (replies_from desk.old.state (replicate steps.count Step)))
+        ++ steps_end manner steps.first steps.horizon steps.refused steps.count)) }
+    ensures err { result ≡ Err stop.NoMemory → IsThere desk.old desk.new }
+    ensures lost { result ≡ Err stop.Lost → IsAmidSteps desk.old.state steps.count desk.new.state }
+    ensures same { OnErr result (text.new.items ≡ text.old.items) }
+{
+    take_steps(desk, manner.json, steps.first, steps.count, answer)?;
+    match finish(alloc, manner, steps, answer, text) {
+        Ok(()) => Ok(()),
+        Err(_) => Err(stop_at(steps.count)),
+    }
+}
+
 /// Carries steps out: appends their record to the script and the answer to the text.
 ///
 /// # Errors
 ///
-/// `NoMemory`: the desk's state and both texts are as before. `Lost` after the first step: the text is as before.
+/// `NoMemory`: the desk is where it was. `Lost`: it is so many steps on, and at least one. Both texts are as before at both.
 pub(crate) fn step_desk(
     alloc: Global,
     manner: Manner,
@@ -125,10 +153,11 @@ pub(crate) fn step_desk(
     script: &mut Vec<u8>,
     text: &mut Vec<u8>,
 ) -> Result<(), Stop>
-    ensures state { OnOk result (desk.new.state ≡ state_behind desk.old.state (replicate count Step)) }
+    ensures answered { OnOk result (HasAnswered (replicate count Step) desk.old desk.new) }
     ensures texts { OnOk result (AreLonger script.old.items line.now text.old.items (steps_answer manner desk.old.state count) script.new.items text.new.items) }
-    ensures desk { result ≡ Err stop.NoMemory → desk.new.state ≡ desk.old.state }
-    ensures script { result ≡ Err stop.NoMemory → script.new.items ≡ script.old.items }
+    ensures desk { result ≡ Err stop.NoMemory → IsThere desk.old desk.new }
+    ensures lost { result ≡ Err stop.Lost → IsAmidSteps desk.old.state count desk.new.state }
+    ensures script { OnErr result (script.new.items ≡ script.old.items) }
     ensures same { OnErr result (text.new.items ≡ text.old.items) }
 {
     let steps = asked_of(desk.as_desk(), count);
@@ -137,12 +166,9 @@ pub(crate) fn step_desk(
     text.reserve(ROOM)?;
     let was = script.len();
     script.extend_from_slice(line)?;
-    if let Err(stop) = take_steps(desk, manner.json, steps.first, count, &mut answer) {
-        script.truncate(was);
-        return Err(stop);
-    }
-    match finish(alloc, manner, steps, &mut answer, text) {
-        Ok(()) => Ok(()),
-        Err(_) => Err(Stop::Lost),
-    }
+    let Err(stop) = take_and_tell(alloc, manner, desk, steps, &mut answer, text) else {
+        return Ok(());
+    };
+    script.truncate(was);
+    Err(stop)
 }

@@ -8,7 +8,8 @@ use std::alloc::AllocError;
 pub enum Stop {
     /// Out of memory: nothing has changed, and the session goes on.
     NoMemory,
-    /// Out of memory after the first of several steps: nothing is promised of the session any more.
+    /// Out of memory in mid-change, after the first of several steps, or for the label of an event that was inserted: the session
+    /// takes no more lines.
     Lost,
 }
 

@@ -1,5 +1,6 @@
-ghost use Rattle.std.specs.Prelude.{◌≡◌, ◌++◌, None, take, Err, OnErr, OnOk};
+ghost use Rattle.std.specs.Prelude.{◌≡◌, ◌++◌, None, true, is_some, take, Err, OnErr, OnOk};
 ghost use Rattle.pf_answers.specs.Telling.{ready_text, taken_text};
+ghost use Rattle.pf_session.specs.Amid.{IsAmid};
 ghost use Rattle.pf_session.specs.Answers.{said_answer};
 ghost use Rattle.pf_session.specs.Session.{behind_asked, behind_record};
 ghost use Rattle.pf_session.specs.declared.stop.Stop.TheVariants as stop;
@@ -28,11 +29,13 @@ impl Session {
     ///
     /// # Errors
     ///
-    /// `NoMemory`: nothing has changed. `Lost`: nothing is promised any more of the session. The text is as before at both.
+    /// `NoMemory`: nothing has changed. `Lost`: it is in mid-change, after some steps of several, or before the label of an event was
+    /// kept. The text is as before at both.
     pub fn take_record(&mut self, said: Said, line: &[u8], text: &mut Vec<u8>) -> Result<(), Stop>
         ensures session { OnOk result (self.new ≡ behind_record self.old said line.now) }
         ensures text { OnOk result (text.new.items ≡ text.old.items ++ said_answer self.old.manner self.old.course said) }
         ensures err { result ≡ Err stop.NoMemory → self.new ≡ self.old }
+        ensures lost { result ≡ Err stop.Lost → IsAmid self.old said self.new }
         ensures same { OnErr result (text.new.items ≡ text.old.items) }
     {
         match said {
@@ -123,6 +126,7 @@ impl Session {
         ensures session { OnOk result (self.new ≡ behind_record self.old (says.Asks asks label) line.now) }
         ensures text { OnOk result (text.new.items ≡ text.old.items ++ said_answer self.old.manner self.old.course (says.Asks asks label)) }
         ensures err { result ≡ Err stop.NoMemory → self.new ≡ self.old }
+        ensures lost { result ≡ Err stop.Lost → IsAmid self.old (says.Asks asks label) self.new }
         ensures same { OnErr result (text.new.items ≡ text.old.items) }
     {
         match asks {
@@ -143,6 +147,7 @@ impl Session {
         ensures session { OnOk result (self.new ≡ behind_record self.old (says.Asks (asked.Edit change strict) label) line.now) }
         ensures text { OnOk result (text.new.items ≡ text.old.items ++ said_answer self.old.manner self.old.course (says.Asks (asked.Edit change strict) label)) }
         ensures err { result ≡ Err stop.NoMemory → self.new ≡ self.old }
+        ensures lost { result ≡ Err stop.Lost → IsAmid self.old (says.Asks (asked.Edit change strict) label) self.new }
         ensures same { OnErr result (text.new.items ≡ text.old.items) }
     {
         let Some(desk) = &mut self.desk else {
@@ -178,6 +183,7 @@ impl Session {
         ensures session { OnOk result (self.new ≡ behind_record self.old (says.Asks (asked.Steps count) label) line.now) }
         ensures text { OnOk result (text.new.items ≡ text.old.items ++ said_answer self.old.manner self.old.course (says.Asks (asked.Steps count) label)) }
         ensures err { result ≡ Err stop.NoMemory → self.new ≡ self.old }
+        ensures lost { result ≡ Err stop.Lost → IsAmid self.old (says.Asks (asked.Steps count) label) self.new }
         ensures same { OnErr result (text.new.items ≡ text.old.items) }
     {
         let Some(desk) = &mut self.desk else {
@@ -198,9 +204,11 @@ impl Session {
 
     /// Takes what a record asks for where there is no desk.
     fn take_without_desk(&mut self, label: Option<Name>, line: &[u8]) -> Result<(), Stop>
-        requires { self.old.course.desk ≡ None }
+        requires desk { self.old.course.desk ≡ None }
+        requires held { self.old.held ≡ None }
         ensures session { OnOk result (self.new ≡ behind_asked (record self.old { script = self.old.script ++ line.now }) label 0) }
         ensures err { result ≡ Err stop.NoMemory → self.new ≡ self.old }
+        ensures lost { result ≡ Err stop.Lost → (is_some label ≡ true) × (self.new.course.desk ≡ None) }
     {
         self.script.extend_from_slice(line)?;
         self.note_asked(label, 0)
@@ -210,10 +218,11 @@ impl Session {
     ///
     /// # Errors
     ///
-    /// `Lost` where memory is refused.
+    /// `Lost` where memory is refused for the label.
     fn note_asked(&mut self, label: Option<Name>, number: u64) -> Result<(), Stop>
         ensures session { OnOk result (self.new ≡ behind_asked self.old label number) }
         ensures err { ¬ (result ≡ Err stop.NoMemory) }
+        ensures lost { OnErr result ((is_some label ≡ true) × (self.new.course.desk ≡ self.old.course.desk)) }
     {
         self.is_first = false;
         self.progress.begun = true;
@@ -237,6 +246,7 @@ impl Session {
         ensures text { OnOk result (text.new.items ≡ text.old.items) }
         ensures same { OnErr result (text.new.items ≡ take was text.old.items) }
         ensures err { ¬ (result ≡ Err stop.NoMemory) }
+        ensures lost { OnErr result ((is_some label ≡ true) × (self.new.course.desk ≡ self.old.course.desk)) }
     {
         let noted = self.note_asked(label, number);
         if noted.is_err() {
@@ -249,10 +259,11 @@ impl Session {
     ///
     /// # Errors
     ///
-    /// `NoMemory`: nothing has changed. `Lost`: nothing is promised any more.
+    /// `NoMemory`: nothing has changed. `Lost`: it is in mid-change.
     pub fn carry_out(&mut self, said: Said, line: &[u8]) -> Result<(), Stop>
         ensures session { OnOk result (self.new ≡ behind_record self.old said line.now) }
         ensures err { result ≡ Err stop.NoMemory → self.new ≡ self.old }
+        ensures lost { result ≡ Err stop.Lost → IsAmid self.old said self.new }
     {
         let mut text = Vec::new(self.alloc);
         let manner = self.manner;

@@ -13,7 +13,7 @@ use Rattle.pf_journal.specs.Lines.{heading, is_new, line_of as gated_line, lines
 use Rattle.pf_journal.specs.Texts.{whole_behind, whole_lines}
 use Rattle.pf_journal.specs.declared.state.State.TheVariants.{New, Other}
 use Rattle.pf_journal_session.specs.Journaled.{behind_file, session_on}
-use Rattle.pf_plain_script.specs.Plain.{start}
+use Rattle.pf_plain_script.specs.Plain.{Course, start}
 use Rattle.pf_journal.specs.Recorder.Recording.{records_in}
 use Rattle.pf_answers.specs.declared.manner.Manner.{Manner}
 use Rattle.pf_session_turns.specs.Opening.{opened}
@@ -21,7 +21,7 @@ use Rattle.pf_session.specs.Session.{SessionState, at_start}
 use Rattle.pf_session_laws.specs.Resumed.{HasRecords, IsAgain, JournalsBeginAgain}
 use Rattle.pf_session_laws.proofs.Opened.{heading_fields, text_again}
 use Rattle.pf_session_laws.proofs.Reading.{AreRead, IsPlain, IsRead, lines_text}
-use Rattle.pf_session_laws.proofs.Scripted.{IsScripted, Runs, session_scripted}
+use Rattle.pf_session_laws.proofs.Scripted.{IsScripted, Runs, held_saids, saids_in, session_scripted}
 
 -- the line of a record, without its end
 abbrev pub body : List (List ℕ) → List ℕ
@@ -120,15 +120,22 @@ script_is file rs old known is =
     ∙ ap lines_of (texts ∙ ap (λ (ts : List (List ℕ)). heading ∷ ts) (sym behind ∙ is))
     ∙ ap (λ (t : List ℕ). gated_line heading ++ t) (gates_text rs)
 
+-- Use: there is no desk without a record.
+pub no_desk : (rs : List (List (List ℕ))) (d : Course) (runs : Runs start rs d) → rs ≡ [] → held_saids None (saids_in start rs d runs) ≡ None
+no_desk [] d runs none = refl
+no_desk (r ∷ rs) d runs none = cc
+
 -- a session without a record
-none_again : (manner : Manner) (s : SessionState) → IsScripted s → s.course ≡ start → s.script ≡ codes "plan,1\n" → IsAgain manner s (Ok (at_start manner))
-none_again manner s is at script = (
+none_again : (manner : Manner) (s : SessionState) → IsScripted s → s.course ≡ start → s.held ≡ None → s.script ≡ codes "plan,1\n"
+    → IsAgain manner s (Ok (at_start manner))
+none_again manner s is at held script = (
   at_start manner,
   refl,
   λ k. record {
     manner = manner;
     is_first = not (sym at k).progress.opened;
     course = sym at k;
+    held = sym held k;
     script = sym script k;
     made = [];
     has_bad = false;
@@ -140,7 +147,8 @@ file_again : (manner : Manner) (s : SessionState) (file : List ℕ) (is : IsScri
 file_again manner s file is [] are records known =
     let course : s.course ≡ start = subst (λ (rs : List (List (List ℕ))). Runs start rs s.course) are is.runs in
     let script : s.script ≡ codes "plan,1\n" = is.script_is ∙ ap (λ (rs : List (List (List ℕ))). codes "plan,1\n" ++ lines_text false rs) are in
-    subst (λ (ls : List (List ℕ)). IsAgain manner s (behind_file manner ls (script_of file))) (sym records) (none_again manner s is course script)
+    let held : s.held ≡ None = is.held ∙ no_desk is.rows s.course is.runs are in
+    subst (λ (ls : List (List ℕ)). IsAgain manner s (behind_file manner ls (script_of file))) (sym records) (none_again manner s is course held script)
 file_again manner s file is (r ∷ rs) are records known =
     let came : s.course.progress.opened ≡ true = some is.came in
     let text : script_of file ≡ lines_text true (heading_fields ∷ is.rows) =

@@ -9,3 +9,4 @@ mod Opened
 mod Files
 mod Sat
 mod Begun
+mod Shown

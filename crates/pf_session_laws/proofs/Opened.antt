@@ -16,24 +16,25 @@ use Rattle.pf_script.specs.Plan.Heading.{heading_fault, is_plan_heading}
 use Rattle.pf_script.specs.Plan.Parsing.{said_at}
 use Rattle.pf_session_laws.specs.Resumed.{IsAgain, ScriptsBeginAgain}
 use Rattle.pf_session_laws.proofs.Reading.{IsPlain, IsRead, lines_text, rows_again}
-use Rattle.pf_session_laws.proofs.Scripted.{IsScripted, Runs, session_scripted}
+use Rattle.pf_session_laws.proofs.Scripted.{IsScripted, Runs, held_saids, saids_in, session_scripted}
 
 -- a session after these records, which make this course
-record Follows (u : SessionState) (rs : List (List (List ℕ))) (d : Course) (v : SessionState) : Type 0 where
+record Follows (u : SessionState) (rs : List (List (List ℕ))) (d : Course) (runs : Runs u.course rs d) (v : SessionState) : Type 0 where
   pub manner : v.manner ≡ u.manner
   pub course : v.course ≡ d
+  pub held : v.held ≡ held_saids u.held (saids_in u.course rs d runs)
   pub script : v.script ≡ u.script ++ lines_text false rs
   pub bad : v.has_bad ≡ u.has_bad
   pub first : u.is_first ≡ false → v.is_first ≡ false
 
 -- the records are taken, one after the other
-runs_on : (found : List Row) (rs : List (List (List ℕ))) (u : SessionState) (n : ℕ) (d : Course) → map (λ row. row.fields) found ≡ rs → Runs u.course rs d
-    → d.progress.opened ≡ true → (v : SessionState) × (behind_rows u n found ≡ Ok v) × Follows u rs d v
+runs_on : (found : List Row) (rs : List (List (List ℕ))) (u : SessionState) (n : ℕ) (d : Course) → map (λ row. row.fields) found ≡ rs
+    → (runs : Runs u.course rs d) → d.progress.opened ≡ true → (v : SessionState) × (behind_rows u n found ≡ Ok v) × Follows u rs d runs v
 runs_on [] [] u n d is runs settled =
     let came : u.course.progress.opened ≡ true = sym (ap (λ (c : Course). c.progress.opened) runs) ∙ settled in (
       u,
       rw came refl,
-      record { manner = refl; course = sym runs; script = sym (append-nil u.script); bad = refl; first = λ h. h },
+      record { manner = refl; course = sym runs; held = refl; script = sym (append-nil u.script); bad = refl; first = λ h. h },
     )
 runs_on [] (r ∷ rs) u n d is runs settled = cc
 runs_on (row ∷ found) [] u n d is runs settled = cc
@@ -47,6 +48,7 @@ runs_on (row ∷ found) (r ∷ rs) u n d is runs settled =
       record {
         manner = more.2.manner;
         course = more.2.course;
+        held = more.2.held;
         script = more.2.script ∙ append_assoc u.script (line_of row.fields) (lines_text false rs)
             ∙ ap (λ (f : List (List ℕ)). u.script ++ (line_of f ++ lines_text false rs)) same;
         bad = more.2.bad;
@@ -62,8 +64,8 @@ unfolding trim_start trim_end
 heading_read = (refl, (refl, refl), All-cons IsPlain (codes "1") [] (refl, refl) (All-nil IsPlain))
 
 plan_opened : (manner : Manner) (bytes : List ℕ) (found : List Row) (rs : List (List (List ℕ))) (d : Course) → map (λ row. row.fields) found ≡ heading_fields ∷ rs
-    → Runs start rs d → d.progress.opened ≡ true
-    → (v : SessionState) × (opened_rows (at_start manner) bytes found ≡ Ok v) × Follows (record (at_start manner) { is_first = false }) rs d v
+    → (runs : Runs start rs d) → d.progress.opened ≡ true
+    → (v : SessionState) × (opened_rows (at_start manner) bytes found ≡ Ok v) × Follows (record (at_start manner) { is_first = false }) rs d runs v
 unfolding is_plan_heading heading_fault is_word
 plan_opened manner bytes [] rs d is runs came = cc
 plan_opened manner bytes (row ∷ found) rs d is runs came =
@@ -83,6 +85,10 @@ unfolding strip_bom
 unmarked true rs = refl
 unmarked false rs = refl
 
+-- Use: the rows of a session's script.
+pub script_rows : (s : SessionState) (is : IsScripted s) → map (λ row. row.fields) (rows (lines_text false (heading_fields ∷ is.rows))).rows ≡ heading_fields ∷ is.rows
+script_rows s is = rows_again false (heading_fields ∷ is.rows) (heading_read, is.read) (unmarked false is.rows)
+
 -- Use: the lines of its records, after the heading's.
 pub text_again : (g : Bool) (manner : Manner) (s : SessionState) (is : IsScripted s) → s.course.progress.opened ≡ true
     → IsAgain manner s (opened manner (lines_text g (heading_fields ∷ is.rows)))
@@ -92,6 +98,7 @@ text_again g manner s is came =
     let made = plan_opened manner text (rows text).rows is.rows s.course found is.runs came in
     let f = made.2 in
     let first : made.0.is_first ≡ not s.course.progress.opened = f.first refl ∙ sym (ap not came) in
+    let held : made.0.held ≡ s.held = f.held ∙ sym is.held in
     let script : made.0.script ≡ s.script = f.script ∙ sym is.script_is in (
       made.0,
       made.1,
@@ -99,6 +106,7 @@ text_again g manner s is came =
         manner = f.manner k;
         is_first = first k;
         course = f.course k;
+        held = held k;
         script = script k;
         made = [];
         has_bad = f.bad k;

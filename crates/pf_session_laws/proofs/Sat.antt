@@ -3,7 +3,7 @@ use Rattle.std.proofs.Common.{◌≡◌, ◌∙◌, ℕ, Bool, false, IsTrue, Op
 use Rattle.std.specs.Prelude.{◌⊎◌, is_some}
 use Rattle.std.proofs.lemmas.List.{append_cancel_left}
 use Rattle.pf_session_lines.specs.Lines.{line_of}
-use Rattle.pf_session_lines.specs.Showings.{Showings}
+use Rattle.pf_session.specs.Showings.{Showings}
 use Rattle.pf_session_lines.specs.declared.showing.Showing.TheVariants as showing
 use Rattle.pf_session_lines.specs.declared.showing.Showing.{Showing}
 use Rattle.pf_session_lines.specs.declared.heard.Heard.{Heard}

@@ -22,8 +22,10 @@ use Rattle.pf_journal_session.specs.Journaled.{anew, behind_file, session_on}
 use Rattle.pf_plain_script.specs.Plain.{Course, course_behind, start}
 use Rattle.pf_plain_script.specs.Written.{change_fields}
 use Rattle.pf_text.specs.Rows.Rows.{Row, rows as rows_in}
+use Rattle.pf_replies.specs.Course.{ScriptCourse}
 use Rattle.pf_script.specs.Told.{FaultTold, told}
 use Rattle.pf_script.specs.declared.line.Line.TheVariants.{Edit}
+use Rattle.pf_session.specs.Held.{held_behind}
 use Rattle.pf_session.specs.Made.{taking_back}
 use Rattle.pf_session.specs.declared.made.Made.{Made}
 use Rattle.pf_answers.specs.declared.manner.Manner.{Manner}
@@ -51,12 +53,23 @@ abbrev pub Runs : Course → List (List (List ℕ)) → Course → Type 0
 Runs c [] d = d ≡ c
 Runs c (fields ∷ rs) d = (said : Said) × (said_at c.progress fields ≡ Ok said) × Runs (course_behind c said) rs d
 
--- what holds of each session: its script has records, which are read from it and make its course
+-- what they said
+abbrev pub saids_in : (c : Course) (rs : List (List (List ℕ))) (d : Course) → Runs c rs d → List Said
+saids_in c [] d runs = []
+saids_in c (fields ∷ rs) d runs = runs.0 ∷ saids_in (course_behind c runs.0) rs d runs.2
+
+-- how far a desk is after that
+abbrev pub held_saids : Option ScriptCourse → List Said → Option ScriptCourse
+held_saids held [] = held
+held_saids held (said ∷ saids) = held_saids (held_behind held said) saids
+
+-- what holds of each session: its script has records, which are read from it and make its course and its desk
 pub record IsScripted (s : SessionState) : Type 0 where
   pub rows : List (List (List ℕ))
   pub read : AreRead rows
   pub script_is : s.script ≡ codes "plan,1\n" ++ lines_text false rows
   pub runs : Runs start rows s.course
+  pub held : s.held ≡ held_saids None (saids_in start rows s.course runs)
   pub sound : IsSound s.course
   pub made : ShortMade s.made
   pub came : (rows ≡ []) ⊎ (s.course.progress.opened ≡ true)
@@ -71,6 +84,24 @@ runs_more : (rs : List (List (List ℕ))) (c d : Course) (fields : List (List �
 runs_more [] c d fields said runs e =
     (said, subst (λ (q : Course). said_at q.progress fields ≡ Ok said) runs e, ap (λ (q : Course). course_behind q said) runs)
 runs_more (r ∷ rs) c d fields said runs e = (runs.0, runs.1, runs_more rs (course_behind c runs.0) d fields said runs.2 e)
+
+saids_more : (rs : List (List (List ℕ))) (c d : Course) (fields : List (List ℕ)) (said : Said) (runs : Runs c rs d) (e : said_at d.progress fields ≡ Ok said)
+    → saids_in c (rs ++ fields ∷ []) (course_behind d said) (runs_more rs c d fields said runs e) ≡ saids_in c rs d runs ++ said ∷ []
+unfolding runs_more
+saids_more [] c d fields said runs e = refl
+saids_more (r ∷ rs) c d fields said runs e = ap (λ (t : List Said). runs.0 ∷ t) (saids_more rs (course_behind c runs.0) d fields said runs.2 e)
+
+one_held : (held : Option ScriptCourse) (saids : List Said) (said : Said) → held_saids held (saids ++ said ∷ []) ≡ held_behind (held_saids held saids) said
+one_held held [] said = refl
+one_held held (x ∷ saids) said = one_held (held_behind held x) saids said
+
+held_more : (s : SessionState) (rs : List (List (List ℕ))) (fields : List (List ℕ)) (said : Said) (runs : Runs start rs s.course)
+    (e : said_at s.course.progress fields ≡ Ok said) → s.held ≡ held_saids None (saids_in start rs s.course runs)
+    → held_behind s.held said ≡ held_saids None (saids_in start (rs ++ fields ∷ []) (course_behind s.course said) (runs_more rs start s.course fields said runs e))
+held_more s rs fields said runs e is =
+    ap (λ (h : Option ScriptCourse). held_behind h said) is
+    ∙ sym (one_held None (saids_in start rs s.course runs) said)
+    ∙ sym (ap (held_saids None) (saids_more rs start s.course fields said runs e))
 
 read_more : (rs : List (List (List ℕ))) (fields : List (List ℕ)) → AreRead rs → IsRead fields → AreRead (rs ++ fields ∷ [])
 read_more [] fields read one = (one, tt)
@@ -95,6 +126,7 @@ record_next s is fields said e = (
     read = read_more is.rows fields is.read (said_read s.course.progress fields said is.sound.texts e);
     script_is = script_more s.script is.rows fields is.script_is;
     runs = runs_more is.rows start s.course fields said is.runs e;
+    held = held_more s is.rows fields said is.runs e is.held;
     sound = sound_behind s.course fields said is.sound e;
     made = made_behind_record s.course fields said s.made is.sound e is.made;
     came = inr (opened_behind s.course fields said is.sound e);
@@ -120,6 +152,7 @@ undo_next s is (Some st) (Some m) at made =
         read = read_more is.rows fields is.read (said_read s.course.progress fields said is.sound.texts e);
         script_is = ap (λ (t : List ℕ). s.script ++ t) (sym (change_text change)) ∙ script_more s.script is.rows fields is.script_is;
         runs = runs_more is.rows start s.course fields said is.runs e;
+        held = held_more s is.rows fields said is.runs e is.held;
         sound = sound_behind s.course fields said is.sound e;
         made = undone_short s.course st m s.made at is.sound short is.made;
         came = inr (opened_behind s.course fields said is.sound e);
@@ -136,6 +169,7 @@ bad_next s is = (
     read = is.read;
     script_is = is.script_is;
     runs = is.runs;
+    held = is.held;
     sound = is.sound;
     made = is.made;
     came = is.came;
@@ -151,6 +185,7 @@ heading_next s is = (
     read = is.read;
     script_is = is.script_is;
     runs = is.runs;
+    held = is.held;
     sound = is.sound;
     made = is.made;
     came = is.came;
@@ -165,6 +200,7 @@ anew_scripted s is = record {
   read = is.read;
   script_is = is.script_is;
   runs = is.runs;
+  held = is.held;
   sound = is.sound;
   made = tt;
   came = is.came;
@@ -269,6 +305,7 @@ start_scripted manner = record {
   read = tt;
   script_is = refl;
   runs = refl;
+  held = refl;
   sound = sound_start;
   made = tt;
   came = inl refl;

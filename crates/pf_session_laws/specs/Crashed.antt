@@ -9,7 +9,7 @@ use Rattle.pf_journal.specs.Recorder.Recording.{Recording}
 use Rattle.pf_journal.specs.Recorder.Told.{IsSettled, recorded_talk}
 use Rattle.pf_answers.specs.declared.manner.Manner.{Manner}
 use Rattle.pf_session.specs.Session.{SessionState}
-use Rattle.pf_session_lines.specs.Showings.{Showings}
+use Rattle.pf_session.specs.Showings.{Showings}
 use Rattle.pf_session_turns.specs.Sitters.{answers}
 use Rattle.pf_stream.specs.Dialogue.Sits.{HasSat, Round, Sits}
 use Rattle.pf_stream.specs.declared.dialogue.answers.Going.{Going}

@@ -7,7 +7,7 @@ use Rattle.pf_journal.specs.Recorder.Recording.{records_in}
 use Rattle.pf_answers.specs.declared.manner.Manner.{Manner}
 use Rattle.pf_session_turns.specs.Opening.{opened}
 use Rattle.pf_session.specs.Session.{SessionState}
-use Rattle.pf_session_lines.specs.Showings.{Showings}
+use Rattle.pf_session.specs.Showings.{Showings}
 use Rattle.pf_session_turns.specs.Sitters.{answers}
 use Rattle.pf_stream.specs.Dialogue.Answered.{AnswersAll}
 
@@ -43,6 +43,7 @@ again manner s = record {
   manner = manner;
   is_first = not s.course.progress.opened;
   course = s.course;
+  held = s.held;
   script = s.script;
   made = [];
   has_bad = false;

@@ -1,8 +1,10 @@
 ghost use Rattle.pf_session_laws.specs.Crashed.{BegunAreKept, CrashesLeaveTold, ToldAreKept};
 ghost use Rattle.pf_session_laws.specs.Resumed.{JournalsBeginAgain, ScriptsBeginAgain};
+ghost use Rattle.pf_session_laws.specs.Shown.{SessionsShowTheirScripts};
 
-use pf_session_lines::shows::Shows;
+use pf_session::shows::Shows;
 use pf_stream::dialogue::dialogue::Dialogue;
+use pf_version_laws::laws::scripts_are_retold;
 use sqlite_disk::Disk;
 
 /// The script of a session that has its settings begins the same session again: its settings and its desk, the names and the labels.
@@ -15,6 +17,14 @@ pub fn scripts_begin_again()
 pub fn journals_begin_again()
     ensures { JournalsBeginAgain }
 {}
+
+/// What a session shows of its own desk is what the program gives of its script, where the script of version 2 that belongs to it is
+/// short enough.
+pub fn sessions_show_their_scripts()
+    ensures { SessionsShowTheirScripts }
+{
+    scripts_are_retold();
+}
 
 /// A session that begins on a file that is new, or has the records of a session, is kept in it.
 pub fn begun_are_kept<D: Disk>()

@@ -2,6 +2,5 @@ pub mod Asked
 pub mod Faults
 pub mod Heard
 pub mod Lines
-pub mod Showings
 pub mod Values
 pub mod Words

@@ -11,6 +11,5 @@ pub mod heard;
 pub mod reason;
 pub mod row_text;
 pub mod showing;
-pub mod shows;
 pub mod wanted;
 pub mod word;

@@ -1,6 +1,6 @@
 -- An answer, whatever is said of who writes files.
-use Rattle.std.proofs.Common.{◌≡◌, ◌++◌, ℕ, List, Bool, Result, Ok, Err, IfOk, inl, inr, refl, subst}
-use Rattle.pf_session_lines.specs.Showings.{Showings}
+use Rattle.std.proofs.Common.{◌≡◌, ◌++◌, ℕ, List, Bool, Result, Ok, Err, IfOk, OnErr, inl, inr, refl, subst}
+use Rattle.pf_session.specs.Showings.{Showings}
 use Rattle.pf_session_lines.specs.declared.heard.Heard.{Heard}
 use Rattle.pf_session_lines.specs.declared.heard.Heard.TheVariants.{Nothing, Heading, Record, Shown, Undo, Save, Help, Quit, Bad}
 use Rattle.pf_session.specs.Session.{SessionState}
@@ -8,8 +8,8 @@ use Rattle.pf_session_lines.specs.declared.showing.Showing.{Showing}
 use Rattle.pf_session_lines.specs.declared.showing.Showing.TheVariants as showing
 use Rattle.pf_stream.specs.declared.dialogue.answers.Going.{Going}
 use Rattle.pf_stream.specs.declared.dialogue.answers.Stopped.{Stopped}
-use Rattle.pf_session_turns.specs.Turns.{AnswersLine, GoesOn, Saves, heard_of}
-use Rattle.pf_session_turns.specs.Sitters.{answers}
+use Rattle.pf_session_turns.specs.Turns.{AnswersLine, GoesOn, IsStopped, Saves, heard_of}
+use Rattle.pf_session_turns.specs.Sitters.{answers, stops}
 
 abbrev no_more : Unit {0} → List ℕ → List ℕ → Bool → Unit {0} → Type 0
 no_more v file bytes is_saved w = Unit {0}
@@ -44,3 +44,9 @@ pub taken : (shows : Showings) {S : Type 0} (by : S → List ℕ → List ℕ �
 taken shows by s r v line (Ok g) t w old new same h =
     (h.0, subst (λ (q : SessionState). answers shows q line h.0 g t) same (answered shows by s v line g h.0 t w h.1), h.2)
 taken shows by s r v line (Err fault) t w old new same h = tt
+
+-- Use: it was not answered.
+pub stopped : (s r : SessionState) (line : List ℕ) (result : Result Going Stopped) (t : SessionState) → s ≡ r
+    → OnErr result (IsStopped s line t) → OnErr result (stops r t)
+stopped s r line (Ok g) t same h = tt
+stopped s r line (Err fault) t same h = (line, subst (λ (q : SessionState). IsStopped q line t) same h)

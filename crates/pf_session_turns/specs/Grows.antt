@@ -9,7 +9,7 @@ use Rattle.pf_session_lines.specs.Asked.{asked_at}
 use Rattle.pf_session_lines.specs.Faults.{too_long_text}
 use Rattle.pf_session_lines.specs.Heard.{heard, heard_fields, heard_heading, heard_if, heard_record, heard_word}
 use Rattle.pf_session_lines.specs.Lines.{fields_in, line_of}
-use Rattle.pf_session_lines.specs.Showings.{Showings}
+use Rattle.pf_session.specs.Showings.{Showings}
 use Rattle.pf_session_lines.specs.Words.{word_at}
 use Rattle.pf_session_lines.specs.declared.showing.Showing.{Showing}
 use Rattle.pf_session_lines.specs.declared.showing.Showing.TheVariants as showing

@@ -1,6 +1,6 @@
 pub use Rattle.pf_answers.specs.declared.manner.Manner
 pub use Rattle.pf_session_lines.specs.Heard
-pub use Rattle.pf_session_lines.specs.Showings
+pub use Rattle.pf_session.specs.Showings
 pub use Rattle.pf_session_lines.specs.declared.showing.Showing
 pub use Rattle.pf_session.specs.Session
 pub mod Turns

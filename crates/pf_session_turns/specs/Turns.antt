@@ -9,10 +9,11 @@ use Rattle.pf_session_lines.specs.declared.heard.Heard.{Heard}
 use Rattle.pf_session_lines.specs.declared.heard.Heard.TheVariants.{Nothing, Heading, Record, Shown, Undo, Save, Help, Quit, Bad}
 use Rattle.pf_vocabulary.specs.declared.options.format.Format.TheVariants.{Script}
 use Rattle.pf_text.specs.FileName.{file_text}
+use Rattle.pf_session.specs.Amid.{IsAmid}
 use Rattle.pf_session.specs.Answers.{said_answer, undo_answer}
 use Rattle.pf_session.specs.Session.{SessionState, behind_bad, behind_record, behind_undo, newest_of}
 use Rattle.pf_session_lines.specs.Values.{is_value}
-use Rattle.pf_session_lines.specs.Showings.{Showings}
+use Rattle.pf_session.specs.Showings.{Showings}
 use Rattle.pf_session_lines.specs.declared.showing.Showing.{Showing}
 use Rattle.pf_session_lines.specs.declared.showing.Showing.TheVariants as showing
 use Rattle.pf_session_lines.specs.declared.wanted.Wanted.{Wanted}
@@ -46,16 +47,16 @@ Saves saves s v file (showing.Text text) g a t w =
     (is_saved : Bool) × saves v file text.items is_saved w × (g ≡ On) × (a ≡ saved_text s.manner.json file is_saved) × (t ≡ s)
 
 -- a session goes on so with what it heard: whether more is wanted, the answer, and what is after it. What is shown is what `shows` says of
--- its script, and what is saved is what it shows as a script
+-- it, and what is saved is what it shows as a script
 abbrev pub GoesOn : Showings → {S : Type 0} → (S → List ℕ → List ℕ → Bool → S → Type 0) → SessionState → S → Heard → Going → List ℕ → SessionState → S → Type 0
 GoesOn shows saves s v Nothing g a t w = Goes On [] s v g a t w
 GoesOn shows saves s v Heading g a t w = Goes On (taken_text s.manner.json) (record s { is_first = false }) v g a t w
 GoesOn shows saves s v (Record said line) g a t w = Goes On (said_answer s.manner s.course said) (behind_record s said line) v g a t w
 GoesOn shows saves s v (Shown wanted) g a t w =
-    (made : Showing) × shows wanted s.script made × Goes On (showing_answer s.manner.json wanted made) (behind_showing s made) v g a t w
+    (made : Showing) × shows wanted s made × Goes On (showing_answer s.manner.json wanted made) (behind_showing s made) v g a t w
 GoesOn shows saves s v Undo g a t w =
     Goes On (undo_answer s.manner s.course.progress.names s.course.desk (newest_of s.made)) (behind_undo s) v g a t w
-GoesOn shows saves s v (Save file) g a t w = (made : Showing) × shows (Report Script) s.script made × Saves saves s v file made g a t w
+GoesOn shows saves s v (Save file) g a t w = (made : Showing) × shows (Report Script) s made × Saves saves s v file made g a t w
 GoesOn shows saves s v Help g a t w = Goes On (shown_text s.manner.json false help_text) s v g a t w
 GoesOn shows saves s v Quit g a t w = Goes Ends [] s v g a t w
 GoesOn shows saves s v (Bad field text) g a t w = Goes On (bad_text s.manner.json field text) (behind_bad s) v g a t w
@@ -81,3 +82,12 @@ heard_of s line = heard_in s (line_in s.manner.whole line)
 abbrev pub AnswersLine : Showings → {S : Type 0} → (S → List ℕ → List ℕ → Bool → S → Type 0) → SessionState → S → List ℕ → Going → List ℕ → SessionState → S → Type 0
 AnswersLine shows saves s v line g a t w =
     GoesOn shows saves s v (heard_of s line) g a t w ⊎ Goes On (told_text s.manner.json (codes "out of memory")) s v g a t w
+
+-- what it heard leaves it in mid-change: only a record does
+abbrev pub IsLeftAmid : SessionState → Heard → SessionState → Type 0
+IsLeftAmid s (Record said line) t = IsAmid s said t
+IsLeftAmid s heard t = ⊥
+
+-- a line was not answered, for want of memory: nothing has changed, or the line was a record that leaves it in mid-change
+abbrev pub IsStopped : SessionState → List ℕ → SessionState → Type 0
+IsStopped s line t = (t ≡ s) ⊎ IsLeftAmid s (heard_of s line) t

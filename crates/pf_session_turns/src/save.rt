@@ -8,8 +8,8 @@ ghost use Rattle.pf_session_turns.specs.Turns.{Saves, saved_text};
 use crate::saver::Saver;
 use pf_answers::telling::{push_told, taken};
 use pf_session::session::Session;
+use pf_session::shows::Shows;
 use pf_session_lines::showing::Showing;
-use pf_session_lines::shows::Shows;
 use pf_session_lines::wanted::Wanted;
 use pf_text::file_name::push_file;
 use pf_vocabulary::options::format::Format;
@@ -27,14 +27,14 @@ pub(crate) fn save_script<S: Saver, V: Shows>(
     file: &[u8],
     text: &mut Vec<u8>,
 ) -> Result<(), AllocError>
-    ensures ok { OnOk result ((made : Showing) × (answer : List ℕ) × V.shows (Report Script) session.old.script made
+    ensures ok { OnOk result ((made : Showing) × (answer : List ℕ) × V.shows (Report Script) session.old made
         × Saves S.saves session.old saver.old file.now made On answer session.new saver.new × (text.new.items ≡ text.old.items ++ answer)) }
     ensures err { OnErr result (session.new ≡ session.old) }
     ensures saver { OnErr result (saver.new ≡ saver.old) }
     ensures same { OnErr result (text.new.items ≡ text.old.items) }
 {
     let wanted = Wanted::Report(Format::Script);
-    match views.show(session.alloc(), session.script(), &wanted)? {
+    match views.show(session, &wanted)? {
         Showing::Text(script) => {
             let alloc = session.alloc();
             let json = session.manner().json;

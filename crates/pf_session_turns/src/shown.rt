@@ -3,8 +3,8 @@ ghost use Rattle.pf_session_lines.specs.declared.showing.Showing.{Showing};
 ghost use Rattle.pf_session_turns.specs.Turns.{behind_showing, showing_answer};
 
 use pf_session::session::Session;
+use pf_session::shows::Shows;
 use pf_session_lines::showing::Showing;
-use pf_session_lines::shows::Shows;
 use pf_session_lines::wanted::Wanted;
 use std::alloc::AllocError;
 
@@ -19,12 +19,12 @@ pub(crate) fn tell_wanted<V: Shows>(
     wanted: &Wanted,
     text: &mut Vec<u8>,
 ) -> Result<(), AllocError>
-    ensures ok { OnOk result ((made : Showing) × V.shows wanted.now session.old.script made × (session.new ≡ behind_showing session.old made)
+    ensures ok { OnOk result ((made : Showing) × V.shows wanted.now session.old made × (session.new ≡ behind_showing session.old made)
         × (text.new.items ≡ text.old.items ++ showing_answer session.old.manner.json wanted.now made)) }
     ensures err { OnErr result (session.new ≡ session.old) }
     ensures same { OnErr result (text.new.items ≡ text.old.items) }
 {
-    match views.show(session.alloc(), session.script(), wanted)? {
+    match views.show(session, wanted)? {
         Showing::Text(shown) => session.tell_shown(wanted.is_value(), &shown, text),
         Showing::Bad(words) => session.take_bad(0, &words, text),
     }

@@ -1,7 +1,7 @@
 use crate::answer::answer;
 use crate::saver::Saver;
 use pf_session::session::Session;
-use pf_session_lines::shows::Shows;
+use pf_session::shows::Shows;
 use pf_stream::dialogue::answers::{Answers, Going, Stopped, Unkept};
 use pf_stream::dialogue::scripted::Scripted;
 use std::marker::Model;

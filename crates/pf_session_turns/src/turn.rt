@@ -3,17 +3,17 @@ ghost use Rattle.std.specs.Option.{option_map};
 ghost use Rattle.pf_answers.specs.Shown.{shown_text};
 ghost use Rattle.pf_session_lines.specs.Words.{help_text};
 ghost use Rattle.pf_session.specs.declared.stop.Stop.TheVariants as stop;
-ghost use Rattle.pf_session_turns.specs.Turns.{GoesOn, heard_of, line_in};
+ghost use Rattle.pf_session_turns.specs.Turns.{GoesOn, IsLeftAmid, heard_of, line_in};
 
 use crate::save::save_script;
 use crate::saver::Saver;
 use crate::shown::tell_wanted;
 use pf_session::session::Session;
+use pf_session::shows::Shows;
 use pf_session::stop::Stop;
 use pf_session_lines::hear::hear;
 use pf_session_lines::heard::Heard;
 use pf_session_lines::reason::help;
-use pf_session_lines::shows::Shows;
 use pf_stream::dialogue::answers::Going;
 use std::alloc::AllocError;
 
@@ -21,7 +21,7 @@ use std::alloc::AllocError;
 ///
 /// # Errors
 ///
-/// `NoMemory`: nothing has changed. `Lost`: nothing is promised of the session any more. The text and who saves are as before at both.
+/// `NoMemory`: nothing has changed. `Lost`: a record left the session in mid-change. The text and who saves are as before at both.
 pub(crate) fn turn<S: Saver, V: Shows>(
     session: &mut Session,
     saver: &mut S,
@@ -32,6 +32,7 @@ pub(crate) fn turn<S: Saver, V: Shows>(
     ensures ok { IfOk result (λ going. (answer : List ℕ) × GoesOn V.shows S.saves session.old saver.old (heard_of session.old line.now) going answer session.new saver.new
         × (text.new.items ≡ text.old.items ++ answer)) }
     ensures err { result ≡ Err stop.NoMemory → session.new ≡ session.old }
+    ensures lost { result ≡ Err stop.Lost → IsLeftAmid session.old (heard_of session.old line.now) session.new }
     ensures saver { OnErr result (saver.new ≡ saver.old) }
     ensures same { OnErr result (text.new.items ≡ text.old.items) }
 {
@@ -70,6 +71,7 @@ fn take<S: Saver, V: Shows>(
     ensures ok { IfOk result (λ going. (answer : List ℕ) × GoesOn V.shows S.saves session.old saver.old heard going answer session.new saver.new
         × (text.new.items ≡ text.old.items ++ answer)) }
     ensures err { result ≡ Err stop.NoMemory → session.new ≡ session.old }
+    ensures lost { result ≡ Err stop.Lost → IsLeftAmid session.old heard session.new }
     ensures saver { OnErr result (saver.new ≡ saver.old) }
     ensures same { OnErr result (text.new.items ≡ text.old.items) }
 {

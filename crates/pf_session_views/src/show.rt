@@ -26,7 +26,11 @@ use std::alloc::{AllocError, Global};
 ///
 /// Where memory is refused.
 #[tactic(auto, using(crate::proofs::Shown::other_shows))]
-pub fn show(alloc: Global, script: &[u8], wanted: &Wanted) -> Result<Showing, AllocError>
+pub(crate) fn script_shown(
+    alloc: Global,
+    script: &[u8],
+    wanted: &Wanted,
+) -> Result<Showing, AllocError>
     ensures { IfOk result (Shows wanted.now script.now) }
 {
     match plain_script(alloc, script)? {
@@ -86,7 +90,7 @@ fn showing(
 
 /// The text of an answer, or what it tells where the words are mistaken.
 #[tactic(auto, using(crate::proofs::Shown::text_shown))]
-fn shown_answer(answer: Answer) -> Showing
+pub(crate) fn shown_answer(answer: Answer) -> Showing
     ensures { ShowsAnswer answer.ending.status answer result }
 {
     let Answer { text, ending } = answer;

@@ -50,7 +50,7 @@ fn bad_record(alloc: Global, number: u64) -> Result<String, AllocError>
 }
 
 /// Those of a range that can't be shown.
-fn range_words(alloc: Global, range: RangeFault) -> Result<String, AllocError>
+pub(crate) fn range_words(alloc: Global, range: RangeFault) -> Result<String, AllocError>
     ensures { IfOk result (λ words. string_bytes words ≡ range_words range) }
 {
     match range {

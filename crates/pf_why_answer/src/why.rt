@@ -1,7 +1,9 @@
 ghost use Rattle.std.specs.Prelude.{◌≡◌, ◌<◌, string_bytes, IfOk, IfErr};
+ghost use Rattle.pf_replies.specs.Course.{course_at, seen_at};
 ghost use Rattle.pf_vocabulary.specs.Fault.Faults.{IsUnwritten};
 ghost use Rattle.pf_why_answer.specs.Answer.{IsAnswer, IsQuietIfDone, WhyMade, answer_text, number_in, refused, seen_told, slot_told, unbelow_line, unnamed_line};
 
+use pf_desk::desk::Desk;
 use pf_desk::snapshot::Snapshot;
 use pf_replies::at_end::seen_at_end;
 use pf_vocabulary::fault::answer::Answer;
@@ -113,6 +115,24 @@ fn seen_answer(
             None => Ok(refused(alloc, unnamed_line(alloc, task)?)),
         },
     }
+}
+
+/// The answer to a question about a desk whose tasks have these names: why a slot of its run went as it did. A name that is that of no
+/// task and a slot that was not stepped are told, with the status `BadWords` and no text.
+///
+/// # Errors
+///
+/// Where memory is refused.
+pub fn desk_answer(
+    alloc: Global,
+    desk: &Desk,
+    names: &Names,
+    question: &Question,
+) -> Result<Answer, AllocError>
+    ensures { IfOk result (λ answer. IsAnswer (seen_told names.now (seen_at (course_at desk.now)) question.now) answer) }
+{
+    let seen = desk.snapshot()?;
+    seen_answer(alloc, &seen, names, question)
 }
 
 /// Carries out a script of these bytes, whose tasks have these names, and answers why a slot of its run went as it did, as the

@@ -2,6 +2,7 @@ use Rattle.std.proofs.Common.{◌++◌, ◌∙◌, ap, refl, subst}
 use Rattle.std.proofs.lemmas.Result.{on_ok_weaker}
 use Rattle.pf_answers.specs.Bad.{bad_text}
 use Rattle.pf_vocabulary.specs.declared.options.format.Format.TheVariants.{Script}
+use Rattle.pf_session.specs.Session.{behind_bad}
 use Rattle.pf_session_lines.specs.declared.showing.Showing.TheVariants as showing
 use Rattle.pf_session_lines.specs.declared.wanted.Wanted.TheVariants.{Report}
 use Rattle.pf_session_turns.specs.Turns.{saved_text}
@@ -13,16 +14,15 @@ returns-in-Text-clause-ok g c =
     on_ok_weaker c.save_text.result (λ p. (
       showing.Text c.in-Text.script,
       saved_text c.args.session.now.manner.json c.args.file.now p.0,
-      subst (λ y. g.V.Shows.shows (Report Script) c.args.session.now.script y) c.in-Text.is
-          (subst (λ s. g.V.Shows.shows (Report Script) s c.in_ok-script.field-0) c.script.ensures c.in_ok-script.ensures),
+      subst (λ y. g.V.Shows.shows (Report Script) c.args.session.now y) c.in-Text.is c.in_ok-script.ensures.shown,
       (
         p.0,
         subst (λ b. g.S.Saver.saves c.args.saver.now c.args.file.now b p.0 c.save_text.new.saver) c.deref.ensures.value p.1,
         refl,
         refl,
-        refl,
+        c.show.ensures.same,
       ),
-      p.2 ∙ ap (λ m. c.args.text.now.items ++ saved_text m.json c.args.file.now p.0) c.manner-json.ensures,
+      p.2 ∙ ap (λ m. c.args.text.now.items ++ saved_text m.json c.args.file.now p.0) (c.manner-json.ensures ∙ ap (λ s. s.manner) c.show.ensures.same),
     ))
     c.save_text.ensures.ok
 
@@ -31,9 +31,9 @@ returns-in-Bad-clause-ok g c =
     both_ok c.take_bad.result (λ session text. (
       showing.Bad c.in-Bad.words,
       bad_text c.args.session.now.manner.json 0 c.in-Bad.words.items,
-      subst (λ y. g.V.Shows.shows (Report Script) c.args.session.now.script y) c.in-Bad.is
-          (subst (λ s. g.V.Shows.shows (Report Script) s c.in_ok-script.field-0) c.script.ensures c.in_ok-script.ensures),
-      (refl, refl, session, refl),
-      text ∙ ap (λ w. c.args.text.now.items ++ bad_text c.args.session.now.manner.json 0 w) c.deref-in-Bad.ensures.value,
+      subst (λ y. g.V.Shows.shows (Report Script) c.args.session.now y) c.in-Bad.is c.in_ok-script.ensures.shown,
+      (refl, refl, session ∙ ap behind_bad c.show.ensures.same, refl),
+      text ∙ ap (λ w. c.args.text.now.items ++ bad_text c.show.new.session.manner.json 0 w) c.deref-in-Bad.ensures.value
+          ∙ ap (λ s. c.args.text.now.items ++ bad_text s.manner.json 0 c.in-Bad.words.items) c.show.ensures.same,
     ))
     c.take_bad.ensures.session c.take_bad.ensures.text

@@ -1,7 +1,7 @@
 use Rattle.std.proofs.Common.{subst}
 use Rattle.pf_plain_script.specs.Plain.{MakesPlain, plain}
 use Rattle.pf_session_views.proofs.Shown.{plan_shows}
-use Rattle.pf_session_views.proofs.show.show.Goals as goal
+use Rattle.pf_session_views.proofs.show.script_shown.Goals as goal
 
 pub returns-in-Some : goal.returns-in-Some
 returns-in-Some c =
