@@ -8,6 +8,7 @@ ghost use Rattle.pf_report.specs.Script.{script_text_of};
 ghost use Rattle.pf_trace.specs.Trace.{trace_text};
 ghost use Rattle.pf_formats.specs.Left.{text_left};
 
+use crate::document_pieces::DocumentPieces;
 use crate::report_pieces::ReportPieces;
 use pf_code::array::c_pieces;
 use pf_desk::snapshot::Snapshot;
@@ -15,7 +16,7 @@ use pf_full::full::full_pieces;
 use pf_full::refusal::Refusal;
 use pf_page::page::page_pieces;
 use pf_report::json::json_pieces;
-use pf_report::script::script_pieces;
+use pf_report::script::script_text;
 use pf_text::pieces::{Chain, Whole};
 use pf_trace::trace::trace_pieces;
 use pf_vocabulary::names::titles::Titles;
@@ -31,20 +32,20 @@ pub(crate) fn json_line<'a>(
 {
     let end = Whole::new(Vec::from_slice(alloc, b"\n")?);
     let object = json_pieces(alloc, snapshot, titles)?;
-    Ok(ReportPieces::Json(Chain::new(object, end)))
+    Ok(ReportPieces::Document(DocumentPieces::Json(Chain::new(object, end))))
 }
 
 /// A script of the desk.
 pub(crate) fn script_of<'a>(
     alloc: Global,
-    snapshot: &'a Snapshot,
+    snapshot: &Snapshot,
     every: u64,
-    titles: &'a Titles,
+    titles: &Titles,
 ) -> Result<ReportPieces<'a>, AllocError>
     ensures { IfOk result (λ pieces. text_left pieces ≡ script_text_of every snapshot.now titles.now) }
 {
-    let script = script_pieces(alloc, snapshot, every, titles)?;
-    Ok(ReportPieces::Script(script))
+    let script = script_text(alloc, snapshot, every, titles)?;
+    Ok(ReportPieces::Whole(Whole::new(script)))
 }
 
 /// The trace events.
@@ -56,7 +57,7 @@ pub(crate) fn trace_of<'a>(
     ensures { IfOk result (λ pieces. text_left pieces ≡ trace_text titles.now snapshot.now) }
 {
     let trace = trace_pieces(alloc, snapshot, titles)?;
-    Ok(ReportPieces::Trace(trace))
+    Ok(ReportPieces::Document(DocumentPieces::Trace(trace)))
 }
 
 /// The schedule as a C array.
@@ -68,7 +69,7 @@ pub(crate) fn code_of<'a>(
     ensures { IfOk result (λ pieces. text_left pieces ≡ c_text snapshot.now titles.now) }
 {
     let code = c_pieces(alloc, snapshot, titles)?;
-    Ok(ReportPieces::Code(code))
+    Ok(ReportPieces::Document(DocumentPieces::Code(code)))
 }
 
 /// The JSON object of all that the run tells, as a line.
@@ -83,7 +84,8 @@ pub(crate) fn full_line<'a>(
 {
     let end = Whole::new(Vec::from_slice(alloc, b"\n")?);
     let object = full_pieces(alloc, snapshot, every, titles, refusals)?;
-    Ok(ReportPieces::Full(Chain::new(object, end)))
+    let line = Chain::new(Whole::new(Vec::new(alloc)), Chain::new(object, end));
+    Ok(ReportPieces::Document(DocumentPieces::Full(line)))
 }
 
 /// That object in a page.
@@ -98,5 +100,5 @@ pub(crate) fn page_of<'a>(
 {
     let object = full_pieces(alloc, snapshot, every, titles, refusals)?;
     let page = page_pieces(alloc, object)?;
-    Ok(ReportPieces::Page(page))
+    Ok(ReportPieces::Document(DocumentPieces::Full(page)))
 }

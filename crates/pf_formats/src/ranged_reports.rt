@@ -10,7 +10,9 @@ ghost use Rattle.pf_vocabulary.specs.Tasks.Listed.{all_tasks};
 ghost use Rattle.pf_windows.specs.Windows.{windows_text};
 ghost use Rattle.pf_formats.specs.Left.{text_left};
 
+use crate::drawing_pieces::DrawingPieces;
 use crate::report_pieces::ReportPieces;
+use crate::table_pieces::TablePieces;
 use pf_chart::chart::chart_pieces;
 use pf_desk::snapshot::Snapshot;
 use pf_jobs::load::load_pieces;
@@ -36,7 +38,7 @@ pub(crate) fn schedule_of(
 {
     let to = range.end(snapshot.now());
     let part = schedule_part_pieces(alloc, snapshot, range.first(), to)?;
-    Ok(ReportPieces::Part(part))
+    Ok(ReportPieces::Table(TablePieces::Schedule(part)))
 }
 
 /// The chart of a range of slots.
@@ -52,7 +54,7 @@ pub(crate) fn chart_of<'a>(
 {
     let to = range.end(snapshot.now());
     let chart = chart_pieces(alloc, snapshot, titles, range.first(), to)?;
-    Ok(ReportPieces::Chart(chart))
+    Ok(ReportPieces::Drawing(DrawingPieces::Chart(chart)))
 }
 
 /// The picture of a range of slots.
@@ -70,7 +72,7 @@ pub(crate) fn picture_of<'a>(
 {
     let to = range.end(snapshot.now());
     let picture = picture_pieces(alloc, snapshot, titles, range.first(), to, look)?;
-    Ok(ReportPieces::Picture(picture))
+    Ok(ReportPieces::Drawing(DrawingPieces::Picture(picture)))
 }
 
 /// The quanta of a range of slots.
@@ -85,7 +87,7 @@ pub(crate) fn quanta_of(
 {
     let to = range.end(snapshot.now());
     let quanta = quanta_pieces(alloc, snapshot, range.first(), to)?;
-    Ok(ReportPieces::Quanta(quanta))
+    Ok(ReportPieces::Table(TablePieces::Quanta(quanta)))
 }
 
 /// The windows of all tasks in a range of slots.
@@ -101,7 +103,7 @@ pub(crate) fn windows_of<'a>(
     let tasks = TaskList::all(alloc)?;
     let to = range.end(snapshot.now());
     let windows = window_pieces(alloc, snapshot, &tasks, titles, range.first(), to)?;
-    Ok(ReportPieces::Windows(windows))
+    Ok(ReportPieces::Table(TablePieces::Windows(windows)))
 }
 
 /// Load and room of a range of slots.
@@ -116,5 +118,5 @@ pub(crate) fn load_of<'a>(
 {
     let to = range.end(snapshot.now());
     let load = load_pieces(alloc, snapshot, range.first(), to)?;
-    Ok(ReportPieces::Load(load))
+    Ok(ReportPieces::Table(TablePieces::Load(load)))
 }

@@ -9,16 +9,17 @@ ghost use Rattle.pf_formats.specs.Left.{text_left};
 ghost use Rattle.pf_formats.specs.Report.{tables_text};
 
 use crate::report_pieces::ReportPieces;
+use crate::table_pieces::TablePieces;
 use crate::tables::tables_pieces;
 use pf_desk::snapshot::Snapshot;
 use pf_jobs::jobs::job_pieces;
-use pf_report::denials::denial_pieces;
+use pf_report::denials::denials_csv;
 use pf_report::events::events_csv;
 use pf_report::lags::lag_pieces;
 use pf_report::misses::miss_pieces;
 use pf_stats::processors::processors_csv;
 use pf_stats::stats::stats_csv;
-use pf_text::pieces::Whole;
+use pf_text::pieces::{Whole, gathered};
 use pf_vocabulary::names::titles::Titles;
 use pf_vocabulary::tasks::task_list::TaskList;
 use std::alloc::{AllocError, Global};
@@ -32,19 +33,19 @@ pub(crate) fn tables_of<'a>(
     ensures { IfOk result (λ pieces. text_left pieces ≡ tables_text snapshot.now titles.now) }
 {
     let tables = tables_pieces(alloc, snapshot, titles)?;
-    Ok(ReportPieces::Tables(tables))
+    Ok(ReportPieces::Table(TablePieces::Four(tables)))
 }
 
 /// The lags.
 pub(crate) fn lags_of<'a>(
     alloc: Global,
     snapshot: &Snapshot,
-    titles: &'a Titles,
+    titles: &Titles,
 ) -> Result<ReportPieces<'a>, AllocError>
     ensures { IfOk result (λ pieces. text_left pieces ≡ lags_text snapshot.now titles.now) }
 {
-    let lags = lag_pieces(alloc, snapshot, titles)?;
-    Ok(ReportPieces::Lags(lags))
+    let lags = gathered(alloc, lag_pieces(alloc, snapshot, titles)?)?;
+    Ok(ReportPieces::Whole(Whole::new(lags)))
 }
 
 /// The missed windows.
@@ -55,15 +56,18 @@ pub(crate) fn misses_of<'a>(
     ensures { IfOk result (λ pieces. text_left pieces ≡ misses_text snapshot.now) }
 {
     let misses = miss_pieces(alloc, snapshot)?;
-    Ok(ReportPieces::Misses(misses))
+    Ok(ReportPieces::Table(TablePieces::Misses(misses)))
 }
 
 /// The denials.
-pub(crate) fn denials_of(alloc: Global, snapshot: &Snapshot) -> Result<ReportPieces<'_>, AllocError>
+pub(crate) fn denials_of<'a>(
+    alloc: Global,
+    snapshot: &Snapshot,
+) -> Result<ReportPieces<'a>, AllocError>
     ensures { IfOk result (λ pieces. text_left pieces ≡ denials_text snapshot.now) }
 {
-    let denials = denial_pieces(alloc, snapshot)?;
-    Ok(ReportPieces::Denials(denials))
+    let denials = denials_csv(alloc, snapshot)?;
+    Ok(ReportPieces::Whole(Whole::new(denials)))
 }
 
 /// The events held.
@@ -109,5 +113,5 @@ pub(crate) fn jobs_of<'a>(
     ensures { IfOk result (λ pieces. text_left pieces ≡ jobs_text snapshot.now all_tasks titles.now) }
 {
     let jobs = job_pieces(alloc, snapshot, &TaskList::all(alloc)?, titles)?;
-    Ok(ReportPieces::Jobs(jobs))
+    Ok(ReportPieces::Table(TablePieces::Jobs(jobs)))
 }

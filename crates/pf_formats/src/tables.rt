@@ -15,7 +15,7 @@ use std::alloc::{AllocError, Global};
 type Titled<T> = Chain<Whole, T>;
 
 /// The four tables, each after a line with its name, in pieces.
-pub type TablesPieces<'a> = Chain<
+pub type FourTables<'a> = Chain<
     Chain<Chain<Titled<SchedulePieces<'a>>, Titled<LagPieces<'a>>>, Titled<MissPieces>>,
     Titled<DenialPieces<'a>>,
 >;
@@ -48,7 +48,7 @@ pub(crate) fn tables_pieces<'a>(
     alloc: Global,
     snapshot: &'a Snapshot,
     titles: &'a Titles,
-) -> Result<TablesPieces<'a>, AllocError>
+) -> Result<FourTables<'a>, AllocError>
     ensures { IfOk result (λ pieces. pieces ≡ tables_text snapshot.now titles.now) }
 {
     let Tally { lags, misses } = snapshot.tally()?;

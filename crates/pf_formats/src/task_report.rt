@@ -1,27 +1,25 @@
-ghost use Rattle.std.specs.Prelude.{◌≡◌, ◌≤◌, true, None, IfOk};
+ghost use Rattle.std.specs.Prelude.{◌≡◌, ◌≤◌, [], true, None, IfOk};
 ghost use Rattle.pf_chart.specs.Chart.{task_chart_text_of};
 ghost use Rattle.pf_jobs.specs.Jobs.{jobs_text};
 ghost use Rattle.pf_vocabulary.specs.declared.look.wrap.TheConstants.{MOST_SLOTS};
 ghost use Rattle.pf_vocabulary.specs.Options.Formats.{range_fault};
 ghost use Rattle.pf_vocabulary.specs.Options.Ranges.{end_of, first_of, is_within, slots_of};
 ghost use Rattle.pf_picture.specs.Picture.{task_picture_text_of};
-ghost use Rattle.pf_report.specs.Quanta.{quanta_text};
-ghost use Rattle.pf_report.specs.Tables.{lags_text, misses_text};
-ghost use Rattle.pf_stats.specs.Stats.{stats_text};
 ghost use Rattle.pf_vocabulary.specs.TaskLines.Lines.{listed_text};
 ghost use Rattle.pf_windows.specs.Windows.{windows_text};
+ghost use Rattle.pf_formats.specs.Report.{report_text};
 ghost use Rattle.pf_formats.specs.TaskLeft.{task_text_left};
 ghost use Rattle.pf_formats.specs.TaskReport.{task_report_text};
 
+use crate::drawing_pieces::DrawingPieces;
+use crate::report::report_pieces;
+use crate::report_pieces::ReportPieces;
+use crate::table_pieces::TablePieces;
 use crate::task_pieces::TaskPieces;
 use pf_chart::chart::task_chart_pieces;
 use pf_desk::snapshot::Snapshot;
 use pf_jobs::jobs::job_pieces;
 use pf_picture::picture::task_picture_pieces;
-use pf_report::lags::lag_pieces;
-use pf_report::misses::miss_pieces;
-use pf_report::quanta::quanta_pieces;
-use pf_stats::stats::stats_csv;
 use pf_text::pieces::Whole;
 use pf_vocabulary::look::look::Look;
 use pf_vocabulary::names::titles::Titles;
@@ -38,7 +36,7 @@ use std::alloc::{AllocError, Global};
 /// # Errors
 ///
 /// Where memory is refused.
-#[tactic(auto, unfolding(crate::specs::TaskReport::task_report_text))]
+#[tactic(auto, unfolding(crate::specs::Report::report_text, crate::specs::TaskReport::task_report_text))]
 pub fn task_report_pieces<'a>(
     alloc: Global,
     snapshot: &'a Snapshot,
@@ -52,13 +50,16 @@ pub fn task_report_pieces<'a>(
     match format {
         Format::Windows(range) => windows_of(alloc, snapshot, titles, &tasks, range),
         Format::Jobs => jobs_of(alloc, snapshot, titles, &tasks),
-        Format::Quanta(range) => quanta_of(alloc, snapshot, tasks, range),
-        Format::Stats => stats_of(alloc, snapshot, titles, tasks),
-        Format::Lags => lags_of(alloc, snapshot, titles, tasks),
-        Format::Misses => misses_of(alloc, snapshot, tasks),
+        Format::Quanta(_) => lines_of(alloc, snapshot, format, titles, tasks, 2),
+        Format::Stats | Format::Lags | Format::Misses => {
+            lines_of(alloc, snapshot, format, titles, tasks, 0)
+        }
         Format::Chart(range) => chart_of(alloc, snapshot, titles, &tasks, range),
         Format::Svg(range, look) => picture_of(alloc, snapshot, titles, &tasks, range, &look),
-        _ => Ok(TaskPieces::Nothing(Whole::new(Vec::new(alloc)))),
+        _ => {
+            let nothing = Whole::new(Vec::new(alloc));
+            Ok(TaskPieces::Made(ReportPieces::Whole(nothing)))
+        }
     }
 }
 
@@ -75,7 +76,8 @@ fn windows_of<'a>(
 {
     let to = range.end(snapshot.now());
     let windows = window_pieces(alloc, snapshot, tasks, titles, range.first(), to)?;
-    Ok(TaskPieces::Windows(windows))
+    let table = TablePieces::Windows(windows);
+    Ok(TaskPieces::Made(ReportPieces::Table(table)))
 }
 
 /// The jobs of the tasks of a list.
@@ -88,61 +90,24 @@ fn jobs_of<'a>(
     ensures { IfOk result (λ pieces. task_text_left pieces ≡ jobs_text snapshot.now tasks.now titles.now) }
 {
     let jobs = job_pieces(alloc, snapshot, tasks, titles)?;
-    Ok(TaskPieces::Jobs(jobs))
+    let table = TablePieces::Jobs(jobs);
+    Ok(TaskPieces::Made(ReportPieces::Table(table)))
 }
 
-/// The quanta of the tasks of a list in a range of slots.
-fn quanta_of(
+/// The lines of a format's table that are of the tasks of a list: this column, counted from 0, has the task.
+fn lines_of<'a>(
     alloc: Global,
-    snapshot: &Snapshot,
-    tasks: TaskList,
-    range: SlotRange,
-) -> Result<TaskPieces<'_>, AllocError>
-    requires { is_within range snapshot.now.state.now ≡ true }
-    ensures { IfOk result
-        (λ pieces. task_text_left pieces ≡ listed_text tasks 2 (quanta_text snapshot.now (first_of range) (end_of range snapshot.now.state.now))) }
-{
-    let to = range.end(snapshot.now());
-    let quanta = quanta_pieces(alloc, snapshot, range.first(), to)?;
-    Ok(TaskPieces::Quanta(ListedLines::new(alloc, quanta, tasks, 2)))
-}
-
-/// The figures of the tasks of a list.
-fn stats_of<'a>(
-    alloc: Global,
-    snapshot: &Snapshot,
-    titles: &Titles,
-    tasks: TaskList,
-) -> Result<TaskPieces<'a>, AllocError>
-    ensures { IfOk result (λ pieces. task_text_left pieces ≡ listed_text tasks 0 (stats_text snapshot.now titles.now)) }
-{
-    let stats = Whole::new(stats_csv(alloc, snapshot, titles)?);
-    Ok(TaskPieces::Stats(ListedLines::new(alloc, stats, tasks, 0)))
-}
-
-/// The lags of the tasks of a list.
-fn lags_of<'a>(
-    alloc: Global,
-    snapshot: &Snapshot,
+    snapshot: &'a Snapshot,
+    format: Format,
     titles: &'a Titles,
     tasks: TaskList,
+    column: usize,
 ) -> Result<TaskPieces<'a>, AllocError>
-    ensures { IfOk result (λ pieces. task_text_left pieces ≡ listed_text tasks 0 (lags_text snapshot.now titles.now)) }
+    requires { range_fault format snapshot.now.state.now ≡ None }
+    ensures { IfOk result (λ pieces. task_text_left pieces ≡ listed_text tasks column (report_text format 0 snapshot.now titles.now [])) }
 {
-    let lags = lag_pieces(alloc, snapshot, titles)?;
-    Ok(TaskPieces::Lags(ListedLines::new(alloc, lags, tasks, 0)))
-}
-
-/// The missed windows of the tasks of a list.
-fn misses_of<'a>(
-    alloc: Global,
-    snapshot: &Snapshot,
-    tasks: TaskList,
-) -> Result<TaskPieces<'a>, AllocError>
-    ensures { IfOk result (λ pieces. task_text_left pieces ≡ listed_text tasks 0 (misses_text snapshot.now)) }
-{
-    let misses = miss_pieces(alloc, snapshot)?;
-    Ok(TaskPieces::Misses(ListedLines::new(alloc, misses, tasks, 0)))
+    let table = report_pieces(alloc, snapshot, 0, format, titles, Vec::new(alloc))?;
+    Ok(TaskPieces::Listed(ListedLines::new(alloc, table, tasks, column)))
 }
 
 /// The chart of the tasks of a list in a range of slots.
@@ -159,7 +124,8 @@ fn chart_of<'a>(
 {
     let to = range.end(snapshot.now());
     let chart = task_chart_pieces(alloc, snapshot, titles, tasks, range.first(), to)?;
-    Ok(TaskPieces::Chart(chart))
+    let drawing = DrawingPieces::Chart(chart);
+    Ok(TaskPieces::Made(ReportPieces::Drawing(drawing)))
 }
 
 /// The picture of the tasks of a list in a range of slots.
@@ -178,5 +144,6 @@ fn picture_of<'a>(
 {
     let to = range.end(snapshot.now());
     let picture = task_picture_pieces(alloc, snapshot, titles, tasks, range.first(), to, look)?;
-    Ok(TaskPieces::Picture(picture))
+    let drawing = DrawingPieces::Picture(picture);
+    Ok(TaskPieces::Made(ReportPieces::Drawing(drawing)))
 }
