@@ -10,4 +10,5 @@ pub mod listed;
 pub mod parts;
 pub mod read;
 pub mod report;
+pub mod tasks;
 pub mod time;

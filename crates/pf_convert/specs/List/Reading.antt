@@ -45,6 +45,11 @@ unfoldable pub line_of : List Listed → List ℕ → Option ℕ
 line_of [] name = None
 line_of (task ∷ tasks) name = if bytes_eq task.name name then Some task.line else line_of tasks name
 
+-- the line of the name `other` where a task with this name and line comes after those among which it was this
+abbrev pub line_with : Option ℕ → List ℕ → ℕ → List ℕ → Option ℕ
+line_with (Some first) name line other = Some first
+line_with None name line other = if bytes_eq name other then Some line else None
+
 -- a name that none of these tasks has
 abbrev pub free_name : List ℕ → Option ℕ → Result (List ℕ) TaskFault
 free_name name None = Ok name

@@ -8,6 +8,7 @@ use crate::list::lines::Lines;
 use crate::list::listed::Listed;
 use crate::list::read::{at_fault, read_task};
 use crate::list::report::fault_line;
+use crate::list::tasks::Tasks;
 use csv::ByteRecord;
 use pf_text::rows::rows::{NextRow, Rows};
 use pf_vocabulary::names::unit::Unit;
@@ -18,7 +19,7 @@ use std::marker::Model;
 /// What a list tells: its tasks, and the lines of its faults.
 #[derive(Drop)]
 pub struct TaskList {
-    tasks: Vec<Listed>,
+    tasks: Tasks,
     faults: Lines,
 }
 
@@ -29,9 +30,9 @@ impl Model for TaskList {
 
     ghost Value = { ListTold };
 
-    ghost view = { λ l. record { tasks = l.tasks.items; faults = l.faults } };
+    ghost view = { λ l. record { tasks = l.tasks; faults = l.faults } };
 
-    ghost invariant = { λ l. All (λ t. IsTimed t.times) l.tasks.items × (length l.tasks.items ≤ 4095) };
+    ghost invariant = { λ l. All (λ t. IsTimed t.times) l.tasks × (length l.tasks ≤ 4095) };
 }
 
 impl TaskList {
@@ -47,7 +48,7 @@ impl TaskList {
         ensures { result ≡ nothing_told }
     {
         TaskList {
-            tasks: Vec::new(alloc),
+            tasks: Tasks::new(alloc),
             faults: Lines::new(alloc),
         }
     }
@@ -58,7 +59,7 @@ impl TaskList {
         ensures timed { All (λ t. IsTimed t.times) result.now }
         ensures few { length result.now ≤ LARGEST_TASK }
     {
-        &self.tasks
+        self.tasks.as_slice()
     }
 
     /// The lines of the faults, in the order of their records.
@@ -96,10 +97,7 @@ impl TaskList {
         ensures few { OnOk result (length self.new.tasks ≤ length self.old.tasks + 1) }
     {
         match read_task(unit, heading, &self.tasks, line, row) {
-            Ok(task) => {
-                self.tasks.push(task)?;
-                Ok(())
-            }
+            Ok(task) => self.tasks.push(alloc, task),
             Err(fault) => {
                 let at = at_fault(heading, row, fault);
                 self.push_fault(alloc, line, at, ListFault::Task(fault))

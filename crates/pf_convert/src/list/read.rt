@@ -2,12 +2,13 @@ ghost use Rattle.std.specs.Prelude.{◌≡◌, ◌≤◌, ◌<◌, IfOk};
 ghost use Rattle.csv.specs.Records.{fields_of};
 ghost use Rattle.pf_convert.specs.declared.timed.TheConstants.{TIME_LIMIT};
 ghost use Rattle.pf_convert.specs.Slots.{IsTimed};
-ghost use Rattle.pf_convert.specs.List.Reading.{at_fault, line_of, name_for, needed_time, optional_time, task_in, times_in};
+ghost use Rattle.pf_convert.specs.List.Reading.{at_fault, name_for, needed_time, optional_time, task_in, times_in};
 
 use crate::list::column::Column;
 use crate::list::fault::TaskFault;
 use crate::list::heading::Heading;
 use crate::list::listed::Listed;
+use crate::list::tasks::Tasks;
 use crate::list::time::{TimeFault, parse_time};
 use crate::timed::Timed;
 use csv::ByteRecord;
@@ -23,7 +24,7 @@ use pf_vocabulary::names::unit::Unit;
 pub fn read_task(
     unit: Unit,
     heading: &Heading,
-    tasks: &[Listed],
+    tasks: &Tasks,
     line: u64,
     row: &ByteRecord,
 ) -> Result<Listed, TaskFault>
@@ -39,28 +40,16 @@ pub fn read_task(
 }
 
 /// The name that a field gives to a task after these tasks.
-fn read_name(tasks: &[Listed], field: &[u8]) -> Result<Name, TaskFault>
+fn read_name(tasks: &Tasks, field: &[u8]) -> Result<Name, TaskFault>
     ensures { result ≡ name_for tasks.now field.now }
 {
     let Some(name) = Name::new(field) else {
         return Err(TaskFault::NoName);
     };
-    match line_of(tasks, field) {
+    match tasks.line_of(name.as_str()) {
         Some(line) => Err(TaskFault::NameTaken(line)),
         None => Ok(name),
     }
-}
-
-/// The line of the task with this name, if there is one.
-fn line_of(tasks: &[Listed], name: &[u8]) -> Option<u64>
-    ensures { result ≡ line_of tasks.now name.now }
-{
-    for task in tasks {
-        if task.name.is(name) {
-            return Some(task.line);
-        }
-    }
-    None
 }
 
 /// The times of a row.
