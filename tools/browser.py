@@ -44,6 +44,13 @@ class Browser:
         self.tell("/actions", {"actions": [{"type": "pointer", "id": "mouse", "parameters": {"pointerType": "mouse"}, "actions": steps}]})
         self.settle()
 
+    def drag(self, places):
+        """A press at the first of these places, a drag to each of the others, and the release."""
+        moves = [{"type": "pointerMove", "duration": 0, "x": round(x), "y": round(y)} for x, y in places]
+        steps = [moves[0], {"type": "pointerDown", "button": 0}, *moves[1:], {"type": "pointerUp", "button": 0}]
+        self.tell("/actions", {"actions": [{"type": "pointer", "id": "mouse", "parameters": {"pointerType": "mouse"}, "actions": steps}]})
+        self.settle()
+
     def chrome(self, command, **parameters):
         return self.tell("/goog/cdp/execute", {"cmd": command, "params": parameters})
 
