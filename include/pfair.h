@@ -30,6 +30,9 @@ extern "C" {
 #define PFAIR_VERSION_PATCH 0
 #define PFAIR_VERSION "0.4.0"
 
+/* What pfair_abi gives of a library that goes with this header: another number where a program would call it wrongly. */
+#define PFAIR_ABI 1
+
 /*
  * A desk, or none. All zero bits are none, as PFAIR_NO_DESK is. It owns memory, which pfair_close gives back. It may be
  * moved to another place; of two copies only one may be used from then on.
@@ -44,9 +47,9 @@ typedef struct pfair_desk {
 
 /*
  * What a call answers. From 10 to 31 the desk has refused a command: nothing changed but its history, which keeps each
- * command with its answer.
+ * command with its answer. pfair_say tells it to people.
  */
-enum {
+typedef enum pfair_status {
     PFAIR_OK = 0,
     PFAIR_EVENT_NOT_FOUND = 10,    /* an alter or a strike of a number that is not held */
     PFAIR_SLOT_OUT_OF_RANGE = 11,  /* the slot is not below the horizon */
@@ -68,8 +71,9 @@ enum {
     PFAIR_UNKNOWN_KIND = 67,       /* a kind that is none of those below, or a number that tells nothing */
     PFAIR_OUT_OF_RANGE = 68,       /* a slot that was not stepped, a range, a page or a look that cannot be shown */
     PFAIR_TOO_SHORT = 69,          /* the caller's room is too short: *count tells how long it must be */
-    PFAIR_BAD_RECORD = 70          /* a record is bad: pfair_bad_record tells where, pfair_script_faults why */
-};
+    PFAIR_BAD_RECORD = 70,         /* a record is bad: pfair_bad_record tells where, pfair_script_faults why */
+    PFAIR_NO_STATUS = INT32_MAX    /* none: it gives the type 32 bits with each compiler */
+} pfair_status;
 
 /* Why an event of the plan is denied in a run, and why a weight is refused: the values of a reason. */
 enum {
@@ -206,8 +210,8 @@ typedef struct pfair_task_figures {
     int64_t response_greatest; /* the same */
     uint64_t missed;           /* windows */
     uint64_t tardiness;        /* the most slots by which a missed subtask ran late */
-    int64_t lag_least;         /* the least lag times the period, while the task was inside */
-    int64_t lag_greatest;      /* the greatest */
+    int64_t scaled_least;      /* the least lag times the period, while the task was inside */
+    int64_t scaled_greatest;   /* the greatest */
 } pfair_task_figures;
 
 /* Whether the loads of the slots stepped were within the processors in use. */
@@ -227,11 +231,11 @@ typedef struct pfair_setup {
 } pfair_setup;
 
 /* How a picture looks. PFAIR_USUAL_LOOK does for most. */
-typedef struct pfair_look {
+typedef struct pfair_picture_look {
     uint64_t cell;  /* how wide each slot is, 6 to 40 */
     uint64_t wrap;  /* how many slots stand side by side, 1 to 4,096 */
     uint64_t style; /* PFAIR_STRIPS or PFAIR_STAIRS */
-} pfair_look;
+} pfair_picture_look;
 
 /* clang-format off */
 #define PFAIR_USUAL_LOOK {20, 4096, PFAIR_STRIPS}
@@ -252,10 +256,10 @@ typedef struct pfair_bad_record {
  * It has 2^20 slots. The plan is empty and no slot was stepped. The handle is as before at every status but PFAIR_OK:
  * PFAIR_ALREADY_OPEN, PFAIR_BAD_SETTINGS, PFAIR_NO_MEMORY.
  */
-uint32_t pfair_open(pfair_desk *desk, uint64_t processors, uint64_t base, uint64_t cap, uint64_t every);
+pfair_status pfair_open(pfair_desk *desk, uint64_t processors, uint64_t base, uint64_t cap, uint64_t every);
 
 /* The same with 2^22 slots. */
-uint32_t pfair_open_wide(pfair_desk *desk, uint64_t processors, uint64_t base, uint64_t cap, uint64_t every);
+pfair_status pfair_open_wide(pfair_desk *desk, uint64_t processors, uint64_t base, uint64_t cap, uint64_t every);
 
 /*
  * Opens a desk with the settings of a whole script of any version (docs/SCRIPTS.md) at a handle that has none, and asks it for
@@ -265,7 +269,7 @@ uint32_t pfair_open_wide(pfair_desk *desk, uint64_t processors, uint64_t base, u
  * carried out, else the handle has no desk. PFAIR_NO_MEMORY: no desk, or one that answered the first commands.
  * PFAIR_ALREADY_OPEN. With these two *bad is as before.
  */
-uint32_t pfair_open_script(pfair_desk *desk, uint32_t caller, const uint8_t *script, size_t length, pfair_bad_record *bad);
+pfair_status pfair_open_script(pfair_desk *desk, uint32_t caller, const char *script, size_t length, pfair_bad_record *bad);
 
 /* Closes the desk and gives its memory back. A handle without a desk stays as it is. */
 void pfair_close(pfair_desk *desk);
@@ -278,7 +282,7 @@ void pfair_close(pfair_desk *desk);
  * stepped so far would then have any denial, old or new. PFAIR_NOT_OPEN, PFAIR_NO_MEMORY, PFAIR_UNKNOWN_KIND: all is as
  * before, *reply too.
  */
-uint32_t pfair_edit(pfair_desk *desk, uint32_t caller, const pfair_change *change, bool strict, pfair_reply *reply);
+pfair_status pfair_edit(pfair_desk *desk, uint32_t caller, const pfair_change *change, bool strict, pfair_reply *reply);
 
 /*
  * Tells what a change would be answered, as pfair_edit does, without making it: the desk is as before. Where it would be
@@ -286,17 +290,17 @@ uint32_t pfair_edit(pfair_desk *desk, uint32_t caller, const pfair_change *chang
  * for pfair_text. PFAIR_TOO_SHORT, PFAIR_OUT_OF_RANGE: *reply is told. PFAIR_NOT_OPEN, PFAIR_NO_MEMORY, PFAIR_UNKNOWN_KIND:
  * *reply is as before. The room is as before at every status but PFAIR_OK.
  */
-uint32_t pfair_what_if(pfair_desk *desk, uint32_t caller, const pfair_change *change, bool strict, pfair_reply *reply,
-                       uint64_t kind, uint8_t *room, size_t length, size_t *count);
+pfair_status pfair_what_if(pfair_desk *desk, uint32_t caller, const pfair_change *change, bool strict, pfair_reply *reply,
+                           uint64_t kind, char *room, size_t length, size_t *count);
 
 /* Asks for the next slot: PFAIR_AT_HORIZON where none is left. PFAIR_NOT_OPEN, PFAIR_NO_MEMORY: all is as before. */
-uint32_t pfair_step(pfair_desk *desk, uint32_t caller);
+pfair_status pfair_step(pfair_desk *desk, uint32_t caller);
 
 /*
  * Asks for slots until count were taken, or one was not: the status is that of the last one asked for, and *taken tells how
  * many were taken, 0 with PFAIR_NOT_OPEN.
  */
-uint32_t pfair_advance(pfair_desk *desk, uint32_t caller, uint64_t count, uint64_t *taken);
+pfair_status pfair_advance(pfair_desk *desk, uint32_t caller, uint64_t count, uint64_t *taken);
 
 /*
  * Asks for what records say, one after another, as they stand after the settings in a script of version 2
@@ -306,7 +310,7 @@ uint32_t pfair_advance(pfair_desk *desk, uint32_t caller, uint64_t count, uint64
  * where it is, and those before it were carried out. PFAIR_NO_MEMORY: it answered the first commands. PFAIR_NOT_OPEN. With
  * these two *bad is as before.
  */
-uint32_t pfair_run(pfair_desk *desk, uint32_t caller, const uint8_t *records, size_t length, pfair_bad_record *bad);
+pfair_status pfair_run(pfair_desk *desk, uint32_t caller, const char *records, size_t length, pfair_bad_record *bad);
 
 /*
  * ---- What the desk tells: it stays as it is, and what is written to is as before at every status but PFAIR_OK ----
@@ -317,53 +321,53 @@ uint32_t pfair_run(pfair_desk *desk, uint32_t caller, const uint8_t *records, si
  */
 
 /* What the desk was opened with. PFAIR_NOT_OPEN. */
-uint32_t pfair_settings(pfair_desk *desk, pfair_setup *setup);
+pfair_status pfair_settings(pfair_desk *desk, pfair_setup *setup);
 
 /* How many commands the desk has answered: changes and steps, refused ones too. PFAIR_NOT_OPEN. */
-uint32_t pfair_entries(pfair_desk *desk, size_t *count);
+pfair_status pfair_entries(pfair_desk *desk, size_t *count);
 
 /*
  * The reply lines (docs/COMMANDS.md) of the commands that the desk has answered, from the `first` on, counted from 0: *count
  * bytes. What pfair_entries tells before a pfair_run is the first of that run. PFAIR_TOO_SHORT, PFAIR_NO_MEMORY,
  * PFAIR_NOT_OPEN.
  */
-uint32_t pfair_replies(pfair_desk *desk, size_t first, uint8_t *room, size_t length, size_t *count);
+pfair_status pfair_replies(pfair_desk *desk, size_t first, char *room, size_t length, size_t *count);
 
 /* How many slots were stepped. PFAIR_NOT_OPEN. */
-uint32_t pfair_now(pfair_desk *desk, uint64_t *now);
+pfair_status pfair_now(pfair_desk *desk, uint64_t *now);
 
 /*
  * Who runs where in a slot: a pick for each processor. PFAIR_OUT_OF_RANGE where the slot was not stepped; PFAIR_TOO_SHORT
  * where length is below the number of processors, which no count tells; PFAIR_NOT_OPEN.
  */
-uint32_t pfair_row(pfair_desk *desk, uint64_t slot, pfair_pick *room, size_t length);
+pfair_status pfair_row(pfair_desk *desk, uint64_t slot, pfair_pick *room, size_t length);
 
 /* How far each task inside is from its fair share, by task. PFAIR_TOO_SHORT, PFAIR_NO_MEMORY, PFAIR_NOT_OPEN. */
-uint32_t pfair_lags(pfair_desk *desk, pfair_lag *room, size_t length, size_t *count);
+pfair_status pfair_lags(pfair_desk *desk, pfair_lag *room, size_t length, size_t *count);
 
 /* The missed windows, by deadline, then by task. PFAIR_TOO_SHORT, PFAIR_NO_MEMORY, PFAIR_NOT_OPEN. */
-uint32_t pfair_misses(pfair_desk *desk, pfair_miss *room, size_t length, size_t *count);
+pfair_status pfair_misses(pfair_desk *desk, pfair_miss *room, size_t length, size_t *count);
 
 /* The denials of the slots stepped, in the order in which the events were taken. PFAIR_TOO_SHORT, PFAIR_NOT_OPEN. */
-uint32_t pfair_denials(pfair_desk *desk, pfair_denial *room, size_t length, size_t *count);
+pfair_status pfair_denials(pfair_desk *desk, pfair_denial *room, size_t length, size_t *count);
 
 /* The figures of each task admitted in a slot stepped, by task. PFAIR_TOO_SHORT, PFAIR_NO_MEMORY, PFAIR_NOT_OPEN. */
-uint32_t pfair_figures(pfair_desk *desk, pfair_task_figures *room, size_t length, size_t *count);
+pfair_status pfair_figures(pfair_desk *desk, pfair_task_figures *room, size_t length, size_t *count);
 
 /* The events held, by number. PFAIR_TOO_SHORT, PFAIR_NO_MEMORY, PFAIR_NOT_OPEN. */
-uint32_t pfair_events(pfair_desk *desk, pfair_numbered *room, size_t length, size_t *count);
+pfair_status pfair_events(pfair_desk *desk, pfair_numbered *room, size_t length, size_t *count);
 
 /*
  * Whether no window can ever be missed, whatever joins, leaves, is delayed and runs early: the processors carry the cap, and
  * with each limit held those that it leaves in use do. So it stays until a limit comes that leaves fewer. PFAIR_NOT_OPEN.
  */
-uint32_t pfair_never_misses(pfair_desk *desk, bool *never);
+pfair_status pfair_never_misses(pfair_desk *desk, bool *never);
 
 /*
  * Whether the loads of the slots stepped were within the processors in use. Where first is PFAIR_NEVER they were, and no
  * window was missed; and base times the tardiness of each task is at most the overload. PFAIR_NO_MEMORY, PFAIR_NOT_OPEN.
  */
-uint32_t pfair_fits(pfair_desk *desk, pfair_fit *fit);
+pfair_status pfair_fits(pfair_desk *desk, pfair_fit *fit);
 
 /*
  * A text of a kind, PFAIR_SCHEDULE to PFAIR_TABLES: *count bytes, all of them ASCII, with no byte 0 after them. Each call
@@ -371,7 +375,7 @@ uint32_t pfair_fits(pfair_desk *desk, pfair_fit *fit);
  * its number among those that the desk has answered, from 1 on. PFAIR_UNKNOWN_KIND; PFAIR_OUT_OF_RANGE: a page of more than
  * 65,536 slots; PFAIR_TOO_SHORT, PFAIR_NO_MEMORY, PFAIR_NOT_OPEN.
  */
-uint32_t pfair_text(pfair_desk *desk, uint64_t kind, uint8_t *room, size_t length, size_t *count);
+pfair_status pfair_text(pfair_desk *desk, uint64_t kind, char *room, size_t length, size_t *count);
 
 /*
  * The part of a text that has the slots from `from` on and below `to`, of the kinds PFAIR_SCHEDULE, PFAIR_CHART,
@@ -379,15 +383,15 @@ uint32_t pfair_text(pfair_desk *desk, uint64_t kind, uint8_t *room, size_t lengt
  * these. PFAIR_OUT_OF_RANGE: from is above to, or to above the slots stepped. PFAIR_TOO_SHORT, PFAIR_NO_MEMORY,
  * PFAIR_NOT_OPEN.
  */
-uint32_t pfair_part(pfair_desk *desk, uint64_t kind, uint64_t from, uint64_t to, uint8_t *room, size_t length,
-                    size_t *count);
+pfair_status pfair_part(pfair_desk *desk, uint64_t kind, uint64_t from, uint64_t to, char *room, size_t length,
+                        size_t *count);
 
 /*
  * A picture of these slots as SVG, at most 4,096 of them. PFAIR_OUT_OF_RANGE: as for pfair_part, or there are more, or a
  * number of the look is out of its limits.
  */
-uint32_t pfair_svg(pfair_desk *desk, uint64_t from, uint64_t to, const pfair_look *look, uint8_t *room, size_t length,
-                   size_t *count);
+pfair_status pfair_svg(pfair_desk *desk, uint64_t from, uint64_t to, const pfair_picture_look *look, char *room,
+                       size_t length, size_t *count);
 
 /*
  * ---- What is wrong with records: no desk is needed ----
@@ -396,21 +400,43 @@ uint32_t pfair_svg(pfair_desk *desk, uint64_t from, uint64_t to, const pfair_loo
  * whole script of any version, as pfair_open_script takes it, and of records, as pfair_run does. *count bytes, all of them
  * ASCII, and none where no record is bad. PFAIR_TOO_SHORT, PFAIR_NO_MEMORY.
  */
-uint32_t pfair_script_faults(const uint8_t *script, size_t script_length, uint8_t *room, size_t length, size_t *count);
-uint32_t pfair_record_faults(const uint8_t *records, size_t records_length, uint8_t *room, size_t length, size_t *count);
+pfair_status pfair_script_faults(const char *script, size_t script_length, char *room, size_t length, size_t *count);
+pfair_status pfair_record_faults(const char *records, size_t records_length, char *room, size_t length, size_t *count);
 
 /* ---- The library ---- */
 
+/* PFAIR_ABI of the header that the library was made with. Who loads a library compares the two before another call. */
+uint32_t pfair_abi(void);
+
 /* The version of the header that the library was made with, as PFAIR_VERSION: *count bytes. PFAIR_TOO_SHORT. */
-uint32_t pfair_version(uint8_t *room, size_t length, size_t *count);
+pfair_status pfair_version(char *room, size_t length, size_t *count);
 
 /*
  * The name of a status or a reason, as the table of refusals has it, and what it says, for people to read: of 16 "JoinTwice"
  * and "another event joins the task". *count bytes, all of them ASCII, with no byte 0 after them. PFAIR_UNKNOWN_KIND where
  * neither a status nor a reason has this number: *count is as before; PFAIR_TOO_SHORT.
  */
-uint32_t pfair_name(uint32_t number, uint8_t *room, size_t length, size_t *count);
-uint32_t pfair_sentence(uint32_t number, uint8_t *room, size_t length, size_t *count);
+pfair_status pfair_name(uint32_t number, char *room, size_t length, size_t *count);
+pfair_status pfair_sentence(uint32_t number, char *room, size_t length, size_t *count);
+
+/* A room for each text of pfair_say. */
+#define PFAIR_SAID 96
+
+/*
+ * What a status or a reason says, as a text of C, which ends with a byte 0: it is put into the room, whose length is at least
+ * 1, and cut where it is longer. It is empty where neither has this number. The answer is the room.
+ *
+ *     char said[PFAIR_SAID];
+ *     puts(pfair_say(status, said, sizeof said));
+ */
+static inline char *pfair_say(uint32_t number, char *room, size_t length) {
+    char said[PFAIR_SAID];
+    size_t count = 0, k = 0;
+    if (pfair_sentence(number, said, sizeof said, &count) != PFAIR_OK) count = 0;
+    for (; k < count && k + 1 < length; k++) room[k] = said[k];
+    room[k] = 0;
+    return room;
+}
 
 /*
  * ---- The four duties of a caller, which no call can check ----

@@ -15,7 +15,7 @@ PROGRAM = TOP / "crates" / "pfair" / "out" / "pfair"
 LIBRARIES = tuple(TOP / "out" / "faces" / it for it in ("libpf_face.a", "libpfair.a", "libpfair.so"))
 
 # What else the desk's library is made of.
-FACE_TEXTS = ("include/pfair.h", "faces/c/heap.c", "faces/c/heap.h", "tools/faces")
+FACE_TEXTS = ("include/pfair.h", "faces/c/heap.c", "faces/c/heap.h", "tools/faces", "tools/elf_names.py")
 
 
 def sum_of(path):

@@ -20,8 +20,8 @@ NUMBERS = {
 
 # What C calls the types of pf_c_api; the others by their names there, as pfair_bad_record for RawBadRecord.
 TYPES = {
-    "u8": "uint8_t", "u32": "uint32_t", "u64": "uint64_t", "i64": "int64_t", "usize": "size_t", "bool": "bool",
-    "Handle": "pfair_desk", "RawFigures": "pfair_task_figures", "RawSettings": "pfair_setup",
+    "u8": "char", "u32": "uint32_t", "u64": "uint64_t", "i64": "int64_t", "usize": "size_t", "bool": "bool",
+    "Handle": "pfair_desk", "RawFigures": "pfair_task_figures", "RawLook": "pfair_picture_look", "RawSettings": "pfair_setup",
 }
 
 
@@ -59,12 +59,15 @@ def numbers():
 
 
 def version():
-    """The version, as a text and in its parts."""
+    """The version, as a text and in its parts, and the number of the ABI."""
     told = re.search(r'const VERSION: &str = "(.*)"', (FACE / "version.rt").read_text())[1]
     text = re.search(r'^#define PFAIR_VERSION "(.*)"', header_code(), re.M)[1]
     parts = ".".join(re.findall(r"^#define PFAIR_VERSION_\w+ (\d+)", header_code(), re.M))
     if not told == text == parts:
         raise Differs(f"the version is {told} in pf_c_api, {text} and {parts} in the header")
+    abi = re.search(r"const ABI: u32 = (\d+)", (FACE / "version.rt").read_text())[1]
+    if f"#define PFAIR_ABI {abi}\n" not in header_code():
+        raise Differs(f"PFAIR_ABI is {abi} in pf_c_api")
 
 
 def structs():
@@ -87,6 +90,11 @@ def argument(kind):
     return [f"{'' if mutable else 'const '}{in_c(name)} *", *(["size_t"] if slice else [])]
 
 
+def declared():
+    """The calls of the header: what each gives, its name, and what it takes."""
+    return re.findall(r"^(\w+) (pfair_\w+)\((.*?)\);", header_code(), re.S | re.M)
+
+
 def calls():
     """The calls: the types of their arguments in order, but for the allocator, which C does not pass, and what they give."""
     here, there = {}, {}
@@ -94,8 +102,9 @@ def calls():
         for name, takes, gives in re.findall(r'pub extern "C" fn (\w+)\((.*?)\)(?: -> (\w+))?\n', file.read_text(), re.S):
             kinds = [kind for kind in re.findall(r"\w+: ([^,\n]+)", takes) if kind != "Global"]
             here[name] = (in_c(gives) if gives else "void", [it for kind in kinds for it in argument(kind)])
-    for gives, name, takes in re.findall(r"^(\w+) (pfair_\w+)\((.*?)\);", header_code(), re.S | re.M):
-        there[name] = (gives, [re.sub(r"\s*\w+$", "", it.strip()) for it in takes.split(",")])
+    for gives, name, takes in declared():
+        gives = "uint32_t" if gives == "pfair_status" else gives
+        there[name] = (gives, [re.sub(r"\s*\w+$", "", it.strip()) for it in takes.split(",") if it != "void"])
     compare(here, there, "the call")
 
 

@@ -32,9 +32,9 @@ static int closed(void) {
     pfair_task_figures figures;
     pfair_numbered event;
     pfair_fit fit = {7, 8, 9};
-    pfair_look look = PFAIR_USUAL_LOOK;
+    pfair_picture_look look = PFAIR_USUAL_LOOK;
     bool never = true;
-    uint8_t text;
+    char text;
     uint64_t now = 9, taken = 9;
     size_t count = 9;
     memset(&lag, 0, sizeof lag);
@@ -135,19 +135,19 @@ static int what_if(pfair_desk *desk) {
     static const char now[] = "slot,p0,p1\n0,1/1,2/1\n1,1/2,3/1\n2,2/2,3/2\n";
     pfair_change change = join(0, 0, 0);
     pfair_reply reply = {9, 9};
-    uint8_t text[256];
+    char text[256];
     size_t count = 0;
     memset(text, 0, sizeof text);
     change.kind = PFAIR_STRIKE;
     change.id = 3;
     CHECK(pfair_what_if(desk, 7, &change, false, &reply, PFAIR_SCHEDULE, text, sizeof text, &count) == PFAIR_OK);
-    CHECK(reply.event == 3 && reply.reason == 0 && count == sizeof then - 1 && strcmp((const char *)text, then) == 0);
+    CHECK(reply.event == 3 && reply.reason == 0 && count == sizeof then - 1 && strcmp(text, then) == 0);
     CHECK(pfair_what_if(desk, 7, &change, false, &reply, PFAIR_SCHEDULE, text, 4, &count) == PFAIR_TOO_SHORT);
     change.id = 9;
     CHECK(pfair_what_if(desk, 7, &change, false, &reply, PFAIR_SCHEDULE, text, 256, &count) == PFAIR_EVENT_NOT_FOUND);
     CHECK(pfair_what_if(desk, 7, &change, false, &reply, PFAIR_TABLES + 1, text, 256, &count) == PFAIR_UNKNOWN_KIND);
     memset(text, 0, sizeof text);
-    CHECK(pfair_text(desk, PFAIR_SCHEDULE, text, sizeof text, &count) == PFAIR_OK && strcmp((const char *)text, now) == 0);
+    CHECK(pfair_text(desk, PFAIR_SCHEDULE, text, sizeof text, &count) == PFAIR_OK && strcmp(text, now) == 0);
     return 0;
 }
 
@@ -229,7 +229,7 @@ static int texts(pfair_desk *desk) {
         [PFAIR_HTML] = "<!doctype html>\n",
         [PFAIR_TABLES] = "schedule\nslot,p0,p1\n0,1/1,2/1\n1,1/2,3/1\n2,2/2,3/2\nlags\n",
     };
-    static uint8_t text[262144];
+    static char text[262144];
     uint64_t kind;
     size_t count = 0, again = 0;
     for (kind = PFAIR_SCHEDULE; kind <= PFAIR_TABLES; kind++) {
@@ -249,13 +249,13 @@ static int texts(pfair_desk *desk) {
 static int parts(pfair_desk *desk) {
     static const char part[] = "slot,p0,p1\n1,1/2,3/1\n", chart[] = "slots 1 to 3 of 3; processors 2; base 3; cap 6\n";
     static const uint64_t kinds[] = {PFAIR_SCHEDULE, PFAIR_CHART, PFAIR_WINDOWS, PFAIR_LOAD, PFAIR_QUANTA};
-    uint8_t text[8192], whole[8192];
+    char text[8192], whole[8192];
     size_t count = 0, all = 0, k;
     memset(text, 0, sizeof text);
     memset(whole, 0, sizeof whole);
     CHECK(pfair_part(desk, PFAIR_SCHEDULE, 1, 2, text, 4, &count) == PFAIR_TOO_SHORT && count == sizeof part - 1 && text[0] == 0);
     CHECK(pfair_part(desk, PFAIR_SCHEDULE, 1, 2, text, sizeof text, &count) == PFAIR_OK);
-    CHECK(strcmp((const char *)text, part) == 0);
+    CHECK(strcmp(text, part) == 0);
     CHECK(pfair_part(desk, PFAIR_CHART, 1, 3, text, sizeof text, &count) == PFAIR_OK);
     CHECK(memcmp(text, chart, sizeof chart - 1) == 0);
     for (k = 0; k < sizeof kinds / sizeof kinds[0]; k++) {
@@ -271,10 +271,10 @@ static int parts(pfair_desk *desk) {
 }
 
 static int pictures(pfair_desk *desk) {
-    static const pfair_look bad[] = {{5, 1, PFAIR_STRIPS}, {41, 1, PFAIR_STRIPS}, {20, 0, PFAIR_STRIPS},
+    static const pfair_picture_look bad[] = {{5, 1, PFAIR_STRIPS}, {41, 1, PFAIR_STRIPS}, {20, 0, PFAIR_STRIPS},
                                      {20, 4097, PFAIR_STRIPS}, {20, 1, PFAIR_STAIRS + 1}};
-    pfair_look look = PFAIR_USUAL_LOOK;
-    uint8_t text[16384];
+    pfair_picture_look look = PFAIR_USUAL_LOOK;
+    char text[16384];
     size_t count = 0, stairs = 0, wrapped = 0, k;
     memset(text, 0, sizeof text);
     CHECK(pfair_svg(desk, 0, 3, &look, text, sizeof text, &count) == PFAIR_OK && memcmp(text, "<svg ", 5) == 0);
@@ -295,29 +295,29 @@ static int faults(void) {
     static const char lines[] = "line 1, record 1, field 2: 65 is not within 1 to 64\n"
                                 "line 3, record 3, field 2: \"none\" is no number of 1 to 15 digits\n";
     static const char first[] = "line 2, record 2: settings come once, before all changes and steps\n";
-    const uint8_t *bytes = (const uint8_t *)script;
-    uint8_t text[256];
+    const char *bytes = script;
+    char text[256];
     size_t count = 9;
     memset(text, 0, sizeof text);
     CHECK(pfair_script_faults(bytes, sizeof script - 1, text, 3, &count) == PFAIR_TOO_SHORT);
     CHECK(count == sizeof lines - 1 && text[0] == 0);
     CHECK(pfair_script_faults(bytes, sizeof script - 1, text, sizeof text, &count) == PFAIR_OK);
-    CHECK(strcmp((const char *)text, lines) == 0);
-    CHECK(pfair_record_faults((const uint8_t *)good, sizeof good - 1, text, sizeof text, &count) == PFAIR_OK && count == 0);
+    CHECK(strcmp(text, lines) == 0);
+    CHECK(pfair_record_faults(good, sizeof good - 1, text, sizeof text, &count) == PFAIR_OK && count == 0);
     memset(text, 0, sizeof text);
-    bytes = (const uint8_t *)"step\nsettings,1,4,4,64\n";
-    CHECK(pfair_record_faults(bytes, 23, text, sizeof text, &count) == PFAIR_OK && strcmp((const char *)text, first) == 0);
+    bytes = "step\nsettings,1,4,4,64\n";
+    CHECK(pfair_record_faults(bytes, 23, text, sizeof text, &count) == PFAIR_OK && strcmp(text, first) == 0);
     return 0;
 }
 
 /* Each status and reason has a name and a sentence, and no other number below 100 has. */
 static int names(void) {
     static const char twice[] = "another event joins the task";
-    uint8_t text[64];
+    char text[64];
     uint32_t number, known = 0;
     size_t count = 9;
     for (number = 0; number < 100; number++) {
-        uint32_t status = pfair_name(number, text, sizeof text, &count);
+        pfair_status status = pfair_name(number, text, sizeof text, &count);
         CHECK(status == PFAIR_OK || status == PFAIR_UNKNOWN_KIND);
         CHECK(pfair_sentence(number, text, sizeof text, &count) == status);
         known += status == PFAIR_OK;
@@ -325,8 +325,23 @@ static int names(void) {
     CHECK(known == 29);
     memset(text, 0, sizeof text);
     CHECK(pfair_name(PFAIR_JOIN_TWICE, text, 3, &count) == PFAIR_TOO_SHORT && count == 9 && text[0] == 0);
-    CHECK(pfair_name(PFAIR_JOIN_TWICE, text, sizeof text, &count) == PFAIR_OK && strcmp((const char *)text, "JoinTwice") == 0);
-    CHECK(pfair_sentence(PFAIR_JOIN_TWICE, text, sizeof text, &count) == PFAIR_OK && strcmp((const char *)text, twice) == 0);
+    CHECK(pfair_name(PFAIR_JOIN_TWICE, text, sizeof text, &count) == PFAIR_OK && strcmp(text, "JoinTwice") == 0);
+    CHECK(pfair_sentence(PFAIR_JOIN_TWICE, text, sizeof text, &count) == PFAIR_OK && strcmp(text, twice) == 0);
+    return 0;
+}
+
+/* What a status says, as a text of C: whole, cut to a room, and nothing of a number that tells nothing. */
+static int said(void) {
+    char text[PFAIR_SAID];
+    CHECK(pfair_say(PFAIR_JOIN_TWICE, text, sizeof text) == text && strcmp(text, "another event joins the task") == 0);
+    CHECK(strcmp(pfair_say(PFAIR_JOIN_TWICE, text, 8), "another") == 0);
+    CHECK(strcmp(pfair_say(PFAIR_JOIN_TWICE, text, 1), "") == 0);
+    CHECK(strcmp(pfair_say(5, text, sizeof text), "") == 0);
+    for (uint32_t number = 0; number < 100; number++) {
+        size_t count = 0;
+        pfair_status status = pfair_sentence(number, text, sizeof text, &count);
+        CHECK(strlen(pfair_say(number, text, sizeof text)) == (status == PFAIR_OK ? count : 0));
+    }
     return 0;
 }
 
@@ -334,11 +349,11 @@ static int names(void) {
 static int records(void) {
     static const char good[] = "join,0,1,1,2,0\nstrike,9\nstep,2\n", bad_one[] = "step\nstep,2,3\nstep\n";
     static const char replies[] = "refused 10 EventNotFound\nslot 0: 1/1\nslot 1: -\n";
-    const uint8_t *first = (const uint8_t *)good, *second = (const uint8_t *)bad_one;
+    const char *first = good, *second = bad_one;
     pfair_desk desk = PFAIR_NO_DESK;
     pfair_bad_record bad = {7, 8, 9};
     pfair_pick row = {0, 0};
-    uint8_t text[128];
+    char text[128];
     uint64_t now = 0;
     size_t count = 0;
     CHECK(pfair_run(&desk, 1, first, sizeof good - 1, &bad) == PFAIR_NOT_OPEN && bad.number == 7);
@@ -348,7 +363,7 @@ static int records(void) {
     CHECK(pfair_entries(&desk, &count) == PFAIR_OK && count == 4);
     memset(text, 0, sizeof text);
     CHECK(pfair_replies(&desk, 1, text, 8, &count) == PFAIR_TOO_SHORT && count == sizeof replies - 1 && text[0] == 0);
-    CHECK(pfair_replies(&desk, 1, text, sizeof text, &count) == PFAIR_OK && strcmp((const char *)text, replies) == 0);
+    CHECK(pfair_replies(&desk, 1, text, sizeof text, &count) == PFAIR_OK && strcmp(text, replies) == 0);
     CHECK(pfair_replies(&desk, 5, text, sizeof text, &count) == PFAIR_OK && count == 0);
     CHECK(pfair_row(&desk, 0, &row, 1) == PFAIR_OK && row.task == 1 && row.sub == 1);
     CHECK(pfair_run(&desk, 1, second, sizeof bad_one - 1, &bad) == PFAIR_BAD_RECORD);
@@ -366,10 +381,10 @@ static int script(void) {
     pfair_setup setup = {9, 9, 9, 9, 9};
     uint64_t now = 0;
     CHECK(pfair_settings(&desk, &setup) == PFAIR_NOT_OPEN && setup.base == 9);
-    CHECK(pfair_open_script(&desk, 1, (const uint8_t *)cut, sizeof cut - 1, &bad) == PFAIR_BAD_RECORD);
+    CHECK(pfair_open_script(&desk, 1, cut, sizeof cut - 1, &bad) == PFAIR_BAD_RECORD);
     CHECK(bad.number == 1 && bad.line == 1 && bad.field == 1 && desk.inner == NULL);
-    CHECK(pfair_open_script(&desk, 1, (const uint8_t *)good, sizeof good - 1, &bad) == PFAIR_OK);
-    CHECK(pfair_open_script(&desk, 1, (const uint8_t *)good, sizeof good - 1, &bad) == PFAIR_ALREADY_OPEN);
+    CHECK(pfair_open_script(&desk, 1, good, sizeof good - 1, &bad) == PFAIR_OK);
+    CHECK(pfair_open_script(&desk, 1, good, sizeof good - 1, &bad) == PFAIR_ALREADY_OPEN);
     CHECK(pfair_now(&desk, &now) == PFAIR_OK && now == 2 && pfair_settings(&desk, &setup) == PFAIR_OK);
     CHECK(setup.processors == 1 && setup.base == 2 && setup.cap == 2 && setup.every == 64 && setup.horizon == 1 << 20);
     pfair_close(&desk);
@@ -387,33 +402,34 @@ static int titled_script(void) {
     pfair_reply reply = {0, 0};
     pfair_desk desk = PFAIR_NO_DESK;
     pfair_bad_record bad = {7, 8, 9};
-    uint8_t text[256];
+    char text[256];
     size_t count = 0;
     memset(text, 0, sizeof text);
-    CHECK(pfair_open_script(&desk, 1, (const uint8_t *)rig, sizeof rig - 1, &bad) == PFAIR_OK && bad.number == 7);
-    CHECK(pfair_text(&desk, PFAIR_SCRIPT, text, sizeof text, &count) == PFAIR_OK && strcmp((const char *)text, again) == 0);
+    CHECK(pfair_open_script(&desk, 1, rig, sizeof rig - 1, &bad) == PFAIR_OK && bad.number == 7);
+    CHECK(pfair_text(&desk, PFAIR_SCRIPT, text, sizeof text, &count) == PFAIR_OK && strcmp(text, again) == 0);
     memset(text, 0, sizeof text);
     CHECK(pfair_what_if(&desk, 1, &strike, false, &reply, PFAIR_LAGS, text, sizeof text, &count) == PFAIR_OK);
-    CHECK(strcmp((const char *)text, "task,cost,period,received,lag,name\n1,2,3,6,0,camera\n") == 0);
-    CHECK(pfair_run(&desk, 1, (const uint8_t *)"name,2,lidar\n", 13, &bad) == PFAIR_BAD_RECORD && bad.number == 1);
+    CHECK(strcmp(text, "task,cost,period,received,lag,name\n1,2,3,6,0,camera\n") == 0);
+    CHECK(pfair_run(&desk, 1, "name,2,lidar\n", 13, &bad) == PFAIR_BAD_RECORD && bad.number == 1);
     pfair_close(&desk);
-    CHECK(pfair_open_script(&desk, 1, (const uint8_t *)unknown, sizeof unknown - 1, &bad) == PFAIR_BAD_RECORD);
+    CHECK(pfair_open_script(&desk, 1, unknown, sizeof unknown - 1, &bad) == PFAIR_BAD_RECORD);
     CHECK(bad.number == 3 && bad.line == 3 && bad.field == 2 && desk.inner != NULL);
     pfair_close(&desk);
-    CHECK(pfair_open_script(&desk, 1, (const uint8_t *)"plan,1\n# y\n", 12, &bad) == PFAIR_BAD_RECORD);
+    CHECK(pfair_open_script(&desk, 1, "plan,1\n# y\n", 12, &bad) == PFAIR_BAD_RECORD);
     CHECK(bad.number == 2 && desk.inner == NULL);
     memset(text, 0, sizeof text);
-    CHECK(pfair_script_faults((const uint8_t *)unknown, sizeof unknown - 1, text, sizeof text, &count) == PFAIR_OK);
-    CHECK(strcmp((const char *)text, told) == 0);
+    CHECK(pfair_script_faults(unknown, sizeof unknown - 1, text, sizeof text, &count) == PFAIR_OK);
+    CHECK(strcmp(text, told) == 0);
     return 0;
 }
 
 static int version(void) {
-    uint8_t text[sizeof PFAIR_VERSION];
+    char text[sizeof PFAIR_VERSION];
     size_t count = 0;
     memset(text, 0, sizeof text);
     CHECK(pfair_version(text, 0, &count) == PFAIR_TOO_SHORT && count == sizeof PFAIR_VERSION - 1);
-    CHECK(pfair_version(text, sizeof text, &count) == PFAIR_OK && strcmp((const char *)text, PFAIR_VERSION) == 0);
+    CHECK(pfair_version(text, sizeof text, &count) == PFAIR_OK && strcmp(text, PFAIR_VERSION) == 0);
+    CHECK(pfair_abi() == PFAIR_ABI && sizeof(pfair_status) == sizeof(uint32_t));
     return 0;
 }
 
@@ -430,6 +446,7 @@ int main(void) {
     if (!failed) failed = what_if(&desk);
     if (!failed) failed = version();
     if (!failed) failed = names();
+    if (!failed) failed = said();
     if (!failed) failed = faults();
     if (!failed) failed = records();
     if (!failed) failed = script();

@@ -11,15 +11,15 @@ static size_t some(size_t size, size_t align) {
     return size != 0 ? size : align;
 }
 
-struct rattle_tried rattle_alloc(size_t size, size_t align) {
-    return rattle_tried_at(malloc(some(size, align)));
+struct pfair_heap_tried pfair_heap_alloc(size_t size, size_t align) {
+    return pfair_heap_tried_at(malloc(some(size, align)));
 }
 
-struct rattle_tried rattle_realloc(void *at, size_t kept, size_t size, size_t align) {
+struct pfair_heap_tried pfair_heap_realloc(void *at, size_t kept, size_t size, size_t align) {
     (void)kept;
-    return rattle_tried_at(realloc(at, some(size, align)));
+    return pfair_heap_tried_at(realloc(at, some(size, align)));
 }
 
-void rattle_dealloc(void *at) {
+void pfair_heap_dealloc(void *at) {
     free(at);
 }

@@ -11,18 +11,18 @@
 
 static long asked, refused, living;
 
-struct rattle_tried rattle_alloc(size_t size, size_t align) {
+struct pfair_heap_tried pfair_heap_alloc(size_t size, size_t align) {
     void *at = ++asked == refused ? NULL : malloc(size != 0 ? size : align);
     living += at != NULL;
-    return rattle_tried_at(at);
+    return pfair_heap_tried_at(at);
 }
 
-struct rattle_tried rattle_realloc(void *at, size_t kept, size_t size, size_t align) {
+struct pfair_heap_tried pfair_heap_realloc(void *at, size_t kept, size_t size, size_t align) {
     (void)kept;
-    return rattle_tried_at(++asked == refused ? NULL : realloc(at, size != 0 ? size : align));
+    return pfair_heap_tried_at(++asked == refused ? NULL : realloc(at, size != 0 ? size : align));
 }
 
-void rattle_dealloc(void *at) {
+void pfair_heap_dealloc(void *at) {
     living--;
     free(at);
 }
@@ -33,7 +33,7 @@ static void fail(const char *what) {
 }
 
 /* The report, with no allocation refused. */
-static size_t report(pfair_desk *desk, uint8_t *text, size_t length) {
+static size_t report(pfair_desk *desk, char *text, size_t length) {
     long kept = refused;
     size_t count = 0;
     refused = 0;
@@ -57,8 +57,8 @@ static pfair_change change_of(uint64_t k) {
 }
 
 /* A text, and what is wrong with records, for which a room of one byte is too short: whether memory was refused to them. */
-static int tell(pfair_desk *desk, uint64_t kind, const uint8_t *records, size_t length) {
-    uint8_t room = 77;
+static int tell(pfair_desk *desk, uint64_t kind, const char *records, size_t length) {
+    char room = 77;
     size_t count = 0;
     int told = pfair_text(desk, kind, &room, 1, &count) == PFAIR_NO_MEMORY;
     told |= pfair_record_faults(records, length, &room, 1, &count) == PFAIR_NO_MEMORY;
@@ -68,7 +68,7 @@ static int tell(pfair_desk *desk, uint64_t kind, const uint8_t *records, size_t 
 
 /* Makes the plan, and tells whether a call told of refused memory. */
 static int plan(void) {
-    static uint8_t before[1 << 14], after[1 << 14];
+    static char before[1 << 14], after[1 << 14];
     static const char records[] = "delay,3,1,1\nstep\n", bad_records[] = "step,none\n";
     pfair_desk desk = PFAIR_NO_DESK;
     int told = 0;
@@ -91,12 +91,12 @@ static int plan(void) {
             if (reply.event != 77 || reply.reason != 77) fail("a changed reply");
         }
         told |= pfair_advance(&desk, 1, 1, &taken) == PFAIR_NO_MEMORY;
-        if (pfair_run(&desk, 1, (const uint8_t *)records, sizeof records - 1, &bad) == PFAIR_NO_MEMORY) {
+        if (pfair_run(&desk, 1, records, sizeof records - 1, &bad) == PFAIR_NO_MEMORY) {
             told = 1;
             if (bad.number != 77) fail("a changed place");
         }
         told |= pfair_lags(&desk, lags, 8, &count) == PFAIR_NO_MEMORY;
-        if (k % 6 == 0) told |= tell(&desk, PFAIR_CHART + k / 6, (const uint8_t *)bad_records, sizeof bad_records - 1);
+        if (k % 6 == 0) told |= tell(&desk, PFAIR_CHART + k / 6, bad_records, sizeof bad_records - 1);
         if (pfair_fits(&desk, &fit) == PFAIR_NO_MEMORY) {
             told = 1;
             if (fit.first != 77 || fit.overload_high != 77 || fit.overload_low != 77) fail("a changed fit");

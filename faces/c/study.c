@@ -27,25 +27,24 @@ static const struct trial trials[] = {
 
 /* Prints what the library says of a status or a reason. */
 static void print_sentence(uint64_t number) {
-    uint8_t text[64];
-    size_t count = 0;
-    if (pfair_sentence((uint32_t)number, text, sizeof text, &count) == PFAIR_OK) fwrite(text, 1, count, stdout);
+    char said[PFAIR_SAID];
+    puts(pfair_say((uint32_t)number, said, sizeof said));
 }
 
 /* The missed windows of a table: its lines behind the heading. */
-static size_t lines_behind_heading(const uint8_t *table, size_t length) {
+static size_t lines_behind_heading(const char *table, size_t length) {
     size_t lines = 0;
     for (size_t k = 0; k < length; k++) lines += table[k] == '\n';
     return lines - 1;
 }
 
 /* Tries a change, strictly, and prints what would come of it. */
-static uint32_t try_event(pfair_desk *desk, const struct trial *trial) {
+static pfair_status try_event(pfair_desk *desk, const struct trial *trial) {
     pfair_change change = {PFAIR_INSERT, 0, trial->event};
     pfair_reply reply = {0, 0};
-    uint8_t table[MOST_BYTES];
+    char table[MOST_BYTES];
     size_t count = 0;
-    uint32_t status = pfair_what_if(desk, 1, &change, true, &reply, PFAIR_MISSES, table, sizeof table, &count);
+    pfair_status status = pfair_what_if(desk, 1, &change, true, &reply, PFAIR_MISSES, table, sizeof table, &count);
     printf("%s: ", trial->name);
     if (status == PFAIR_OK) {
         printf("%zu windows missed\n", lines_behind_heading(table, count));
@@ -53,7 +52,6 @@ static uint32_t try_event(pfair_desk *desk, const struct trial *trial) {
     }
     if (status >= PFAIR_NOT_OPEN) return status;
     print_sentence(reply.reason != 0 ? reply.reason : status);
-    printf("\n");
     return PFAIR_OK;
 }
 
@@ -61,16 +59,13 @@ int main(void) {
     pfair_desk desk = PFAIR_NO_DESK;
     pfair_bad_record bad = {0, 0, 0};
     bool never = false;
-    uint32_t status = pfair_open(&desk, 2, 60, 120, 64);
-    if (status == PFAIR_OK) status = pfair_run(&desk, 1, (const uint8_t *)plan, sizeof plan - 1, &bad);
+    pfair_status status = pfair_open(&desk, 2, 60, 120, 64);
+    if (status == PFAIR_OK) status = pfair_run(&desk, 1, plan, sizeof plan - 1, &bad);
     if (status == PFAIR_BAD_RECORD) fprintf(stderr, "line %" PRIu64 " of the plan is bad\n", bad.line);
     for (size_t k = 0; status == PFAIR_OK && k < sizeof trials / sizeof trials[0]; k++) status = try_event(&desk, &trials[k]);
     if (status == PFAIR_OK) status = pfair_never_misses(&desk, &never);
     if (status == PFAIR_OK) printf("as it stands the plan can %s\n", never ? "never miss a window" : "miss windows");
-    if (status != PFAIR_OK) {
-        print_sentence(status);
-        printf("\n");
-    }
+    if (status != PFAIR_OK) print_sentence(status);
     pfair_close(&desk);
     return status != PFAIR_OK;
 }

@@ -81,8 +81,8 @@ raw_figures f = record {
   response_greatest = (extremes_or_none f.response).greatest;
   missed = f.missed;
   tardiness = f.tardiness;
-  lag_least = f.lag.least;
-  lag_greatest = f.lag.greatest;
+  scaled_least = f.lag.least;
+  scaled_greatest = f.lag.greatest;
 }
 
 abbrev pub raw_settings : System → ℕ → RawSettings

@@ -28,9 +28,9 @@ pub struct RawFigures {
     /// The greatest number of slots by which a subtask ran after the last slot of its window.
     pub tardiness: u64,
     /// The least lag, times the period.
-    pub lag_least: i64,
+    pub scaled_least: i64,
     /// The greatest lag, times the period.
-    pub lag_greatest: i64,
+    pub scaled_greatest: i64,
 }
 
 impl ForC for Figures {
@@ -57,8 +57,8 @@ impl ForC for Figures {
             response_greatest,
             missed: self.missed,
             tardiness: self.tardiness,
-            lag_least: self.lag.least,
-            lag_greatest: self.lag.greatest,
+            scaled_least: self.lag.least,
+            scaled_greatest: self.lag.greatest,
         }
     }
 }

@@ -18,10 +18,10 @@ from pfair._errors import BadRecord, BadSettings, ClosedDesk, OutOfRange, PfairE
 from pfair._errors import name, record_faults, script_faults, sentence
 from pfair._events import Delay, Event, Join, Leave, Limit
 from pfair._library import VERSION as __version__
-from pfair._told import Denial, Figures, Fit, Lag, Miss, Pick
+from pfair._told import Denial, Figures, Fit, Lag, Miss, Pick, Quantum, Settings
 
 __all__ = [
     "BadRecord", "BadSettings", "ClosedDesk", "Delay", "Denial", "Desk", "Event", "Figures", "Fit", "Join", "Lag", "Leave",
-    "Limit", "Miss", "OutOfRange", "PfairError", "Pick", "Refused", "__version__", "name", "record_faults",
-    "script_faults", "sentence",
+    "Limit", "Miss", "OutOfRange", "PfairError", "Pick", "Quantum", "Refused", "Settings", "__version__", "name",
+    "record_faults", "script_faults", "sentence",
 ]

@@ -4,28 +4,32 @@ import ctypes
 import json
 import threading
 from types import TracebackType
-from typing import Any, Dict, Iterator, List, Optional, Type
+from typing import Any, Dict, Iterator, List, NoReturn, Optional, Type, Union, overload
 
-from pfair._errors import BadRecord, check, name, record_faults, script_faults
+from pfair._errors import BadRecord, ClosedDesk, check, name, record_faults, script_faults
 from pfair._events import Event, event_of, raw_event, unsigned
+from pfair._html import page, table
 from pfair._library import CALLS, NUMBERS, SIZE, U64, filled, struct
-from pfair._told import Denial, Figures, Fit, Lag, Miss, Pick
+from pfair._texts import raw_look, text_number
+from pfair._told import NEVER, Denial, Figures, Fit, Lag, Miss, Pick, Quantum, Row, Settings, figures_of
 
-NEVER = (1 << 64) - 1
+# How many slots one call takes: between two of them Python sees Ctrl-C.
+PART = 10_000
 
-TEXTS = (
-    "schedule", "lags", "misses", "denials", "events", "script", "json", "processors", "stats", "chart", "windows", "jobs",
-    "load", "quanta", "trace", "c", "full", "html", "tables",
-)
+# How many of its last slots a notebook shows of a desk.
+SHOWN_SLOTS = 200
 
-STYLES = ("strips", "stairs")
-
-# Who runs on each processor, or None where it is idle or out of use.
-Row = List[Optional[Pick]]
+NO_COPY = 'a desk cannot be copied or pickled: Desk.of_script(desk.text("script")) opens another one that stands as it does'
 
 
 class Desk:
-    """A planner's desk: a plan of tasks, and its schedule slot by slot. Threads may share it, one call at a time.
+    """A planner's desk: a plan of tasks, and its schedule slot by slot.
+
+    It is a sequence of the rows that were stepped: len(desk), desk[3], desk[-2:], for row in desk. A desk without a row is
+    true, too.
+
+    Threads may share a desk: a lock of its own lets one call after another have it. While a call runs, the interpreter's lock
+    (GIL) is let go, so that other threads of Python run meanwhile, with other desks too. Ctrl-C is seen between calls.
 
     processors  1 to 64
     base        a number that each period divides, 1 to 2^30
@@ -44,12 +48,19 @@ class Desk:
         self._begin(caller)
         numbers = (processors, base, processors * base if cap is None else cap, every)
         check(self._call("open_wide" if wide else "open", *map(unsigned, numbers)))
-        self._processors = processors
+        self._settings = self._read_settings()
 
     def _begin(self, caller: int) -> None:
         self._raw = struct("desk")()
         self._turn = threading.RLock()
         self._caller = unsigned(caller, 32)
+        # How often the plan was changed, or may have been: who reads rows one by one sees by it that they are of one plan.
+        self._changes = 0
+
+    def _read_settings(self) -> Settings:
+        setup = struct("setup")()
+        check(self._call("settings", setup))
+        return Settings(setup.processors, setup.base, setup.cap, setup.every, setup.horizon)
 
     @classmethod
     def of_script(cls, script: str, caller: int = 0) -> "Desk":
@@ -61,15 +72,30 @@ class Desk:
         desk = cls.__new__(cls)
         desk._begin(caller)
         desk._carry_out("open_script", script)
-        setup = struct("setup")()
-        check(desk._call("settings", setup))
-        desk._processors = setup.processors
+        desk._settings = desk._read_settings()
         return desk
+
+    @property
+    def settings(self) -> Settings:
+        """What the desk was opened with."""
+        return self._settings
 
     @property
     def processors(self) -> int:
         """How many processors there are."""
-        return self._processors
+        return self._settings.processors
+
+    def __repr__(self) -> str:
+        try:
+            with self._turn:
+                now, events = self.now, self._count("events", struct("numbered"))
+        except ClosedDesk:
+            return "Desk(closed)"
+        return f"Desk(processors={self.processors}, base={self._settings.base}, now={now}, events={events})"
+
+    def __reduce_ex__(self, protocol: object) -> NoReturn:
+        # copy.copy, copy.deepcopy and pickle all ask here. Of two copies of a handle each would close the desk of both.
+        raise TypeError(NO_COPY)
 
     def _call(self, name: str, *words: Any) -> int:
         # ctypes lets other threads run during a call, and a handle is in one call at a time.
@@ -95,7 +121,9 @@ class Desk:
     def _edit(self, kind: str, number: int, event: Any, strict: bool) -> int:
         reply = struct("reply")()
         change = struct("change")(NUMBERS[kind], unsigned(number), event)
-        check(self._call("edit", self._caller, change, strict, reply), reply.event, reply.reason)
+        with self._turn:
+            check(self._call("edit", self._caller, change, strict, reply), reply.event, reply.reason)
+            self._changes += 1
         return reply.event
 
     def _what_if(self, text: str, kind: str, number: int, event: Any, strict: bool) -> str:
@@ -144,6 +172,8 @@ class Desk:
         """
         with self._turn:
             first = self.entries
+            # Those before a bad record are carried out, too.
+            self._changes += 1
             self._carry_out("run", records)
             return self.replies(first)
 
@@ -172,12 +202,20 @@ class Desk:
         check(self._call("step", self._caller))
 
     def advance(self, count: int) -> int:
-        """Takes so many slots, or as many as are left: how many were taken."""
-        taken = U64()
-        status = self._call("advance", self._caller, unsigned(count), taken)
-        if status != NUMBERS["AT_HORIZON"]:
-            check(status)
-        return taken.value
+        """Takes so many slots, or as many as are left: how many were taken.
+
+        Ctrl-C is seen each 10,000 slots: those that were taken stay, and now tells how many there are.
+        """
+        count, taken, part = unsigned(count), 0, U64()
+        with self._turn:
+            while True:
+                status = self._call("advance", self._caller, min(count - taken, PART), part)
+                taken += part.value
+                if status == NUMBERS["AT_HORIZON"]:
+                    return taken
+                check(status)
+                if taken == count:
+                    return taken
 
     @property
     def now(self) -> int:
@@ -188,18 +226,70 @@ class Desk:
 
     def row(self, slot: int) -> Row:
         """Who runs on each processor in a slot. Raises OutOfRange where it was not stepped."""
-        room = (struct("pick") * self._processors)()
+        room = (struct("pick") * self.processors)()
         check(self._call("row", unsigned(slot), room, len(room)))
         return [Pick(it.task, it.sub) if it.task else None for it in room]
 
     def rows(self) -> Iterator[Row]:
-        """The rows of the slots stepped."""
-        for slot in range(self.now):
-            yield self.row(slot)
+        """The rows of the slots stepped so far, one by one, all of one plan.
+
+        Raises RuntimeError where the plan was changed, or run was called, before the last one was read. Steps add rows and
+        change none.
+        """
+        with self._turn:
+            return self._rows(range(self.now), self._changes)
+
+    def _rows(self, slots: range, changes: int) -> Iterator[Row]:
+        for slot in slots:
+            with self._turn:
+                if self._changes != changes:
+                    raise RuntimeError("the plan was changed while its rows were read: desk.schedule() reads them at once")
+                row = self.row(slot)
+            yield row
+
+    def __iter__(self) -> Iterator[Row]:
+        return self.rows()
+
+    def __len__(self) -> int:
+        """How many slots were stepped."""
+        return self.now
+
+    def __bool__(self) -> bool:
+        return True
+
+    @overload
+    def __getitem__(self, at: int) -> Row: ...
+
+    @overload
+    def __getitem__(self, at: slice) -> List[Row]: ...
+
+    def __getitem__(self, at: Union[int, slice]) -> Union[Row, List[Row]]:
+        """The row of a slot, or those of some slots, all of one plan; below 0 they are counted from the last one.
+
+        Raises IndexError.
+        """
+        with self._turn:
+            slots = range(self.now)[at]
+            return self.row(slots) if isinstance(slots, int) else list(map(self.row, slots))
 
     def schedule(self) -> List[Row]:
-        """All rows as a list, a slot each, with a column for each processor: what pandas.DataFrame takes."""
-        return list(self.rows())
+        """All rows as a list, a slot each, with a column for each processor."""
+        return self[:]
+
+    def quanta(self, first: int = 0, end: Optional[int] = None) -> List[Quantum]:
+        """The quanta of the slots from first on and below end, or all, by slot, then by processor: what pandas.DataFrame takes.
+
+        Raises OutOfRange.
+        """
+        lines = self.part("quanta", first, end).splitlines()[1:]
+        return [Quantum(*map(int, line.split(","))) for line in lines]
+
+    def _count(self, name: str, element: Any) -> int:
+        """How many values a call would fill a room with."""
+        count = SIZE()
+        status = self._call(name, (element * 1)(), 0, count)
+        check(NUMBERS["OK"] if status == NUMBERS["TOO_SHORT"] else status)
+        return count.value
 
     def _all(self, name: str, element: Any, *words: Any, reply: Any = None) -> Any:
         """What a call fills, in a room that is made as long as the call asks for."""
@@ -223,7 +313,7 @@ class Desk:
 
     def figures(self) -> List[Figures]:
         """The figures of each task admitted in a slot stepped, by task."""
-        return [_figures_of(it) for it in self._all("figures", struct("task_figures"))]
+        return [figures_of(it) for it in self._all("figures", struct("task_figures"))]
 
     def never_misses(self) -> bool:
         """Whether no window can ever be missed, whatever joins, leaves, is delayed and runs early.
@@ -276,14 +366,19 @@ class Desk:
         Each slot is `cell` wide, 6 to 40, and `wrap` of them stand side by side, 1 to 4,096. The style is "strips" or
         "stairs". Raises OutOfRange, ValueError.
         """
-        if style not in STYLES:
-            raise ValueError(f"{style!r} is none of {', '.join(STYLES)}")
-        look = struct("look")(unsigned(cell), unsigned(wrap), NUMBERS[style.upper()])
-        return self._shown("svg", first, end, behind=(look,))
+        return self._shown("svg", first, end, behind=(raw_look(cell, wrap, style),))
 
     def _repr_svg_(self) -> str:
-        """What a notebook shows of a desk: its last slots, at most 200."""
-        return self.svg(max(0, self.now - 200))
+        """A picture of its last slots, at most 200."""
+        return self.svg(max(0, self.now - SHOWN_SLOTS))
+
+    def _repr_html_(self) -> str:
+        """What a notebook shows of a desk: that picture, the figures of each task, and what was missed and denied."""
+        with self._turn:
+            figures = table("Figures", Figures._fields, self.figures())
+            misses = table("Missed windows", Miss._fields, self.misses())
+            denials = table("Denials", Denial._fields, self.denials())
+            return page(repr(self), self._repr_svg_(), figures, misses, denials)
 
     def _shown(self, name: str, first: int, end: Optional[int], before: tuple = (), behind: tuple = ()) -> str:
         with self._turn:
@@ -292,18 +387,9 @@ class Desk:
             return text.decode("ascii")
 
     def report(self) -> Dict[str, Any]:
-        """The report, read from its JSON: the keys are denials, entries, lags, misses, now and schedule."""
+        """The report, read from its JSON: the keys are denials, entries, lags, misses, now and schedule.
+
+        What it calls a lag is what lags() calls scaled: the lag in quanta, times the period.
+        """
         report: Dict[str, Any] = json.loads(self.text("json"))
         return report
-
-
-def text_number(kind: str) -> int:
-    if kind not in TEXTS:
-        raise ValueError(f"{kind!r} is none of {', '.join(TEXTS)}")
-    return NUMBERS[kind.upper()]
-
-
-def _figures_of(it: Any) -> Figures:
-    response = (it.response_least, it.response_greatest) if it.jobs else None
-    first = (it.task, it.cost, it.period, it.quanta, it.migrations, it.preemptions, it.jobs)
-    return Figures(*first, response, it.missed, it.tardiness, (it.lag_least, it.lag_greatest))

@@ -1,13 +1,24 @@
 """What happens in a slot of a plan."""
 
+import operator
 from dataclasses import dataclass, fields
 from typing import Any, ClassVar, Union
 
 from pfair._library import NUMBERS, struct
 
 
+class _Numbers:
+    """What events have in common: each field is a whole number of 64 bits, which is looked at when the event is made."""
+
+    def __post_init__(self) -> None:
+        for it in fields(self):  # type: ignore[arg-type]
+            name = f"{it.name} of {type(self).__name__}"
+            # The fields are frozen. Other kinds of whole numbers, as numpy's, become Python's own.
+            object.__setattr__(self, it.name, unsigned(whole(getattr(self, it.name), name), name=name))
+
+
 @dataclass(frozen=True)
-class Join:
+class Join(_Numbers):
     """The task (1 to 4,095) joins with the weight cost/period: cost quanta in each period slots.
 
     The period divides the base. A subtask may run up to early slots before its release.
@@ -22,7 +33,7 @@ class Join:
 
 
 @dataclass(frozen=True)
-class Leave:
+class Leave(_Numbers):
     """The task leaves."""
 
     slot: int
@@ -31,7 +42,7 @@ class Leave:
 
 
 @dataclass(frozen=True)
-class Delay:
+class Delay(_Numbers):
     """The task's subtasks that did not run are held back by so many slots."""
 
     slot: int
@@ -41,7 +52,7 @@ class Delay:
 
 
 @dataclass(frozen=True)
-class Limit:
+class Limit(_Numbers):
     """From the slot on the processors below count are in use, until the next limit."""
 
     slot: int
@@ -52,10 +63,18 @@ class Limit:
 Event = Union[Join, Leave, Delay, Limit]
 
 
-def unsigned(value: int, bits: int = 64) -> int:
+def whole(value: Any, name: str) -> int:
+    """The number, where it is a whole one; the name says what it is of."""
+    try:
+        return operator.index(value)
+    except TypeError:
+        raise TypeError(f"{name} is a whole number, not {value!r}") from None
+
+
+def unsigned(value: int, bits: int = 64, name: str = "") -> int:
     """The number, where so many bits hold it; ctypes would cut it."""
     if not 0 <= value < 1 << bits:
-        raise ValueError(f"{value} is not 0 to 2^{bits} - 1")
+        raise ValueError(f"{name + ': ' if name else ''}{value} is not 0 to 2^{bits} - 1")
     return value
 
 

@@ -25,6 +25,8 @@ NUMBERS: Dict[str, int] = {
     name: int(number) for name, number in re.findall(r"^\s+PFAIR_(\w+) = (\d+)", _TEXT, re.MULTILINE)
 }
 
+ABI = int(re.search(r"^#define PFAIR_ABI (\d+)", _TEXT, re.MULTILINE)[1])  # type: ignore[index]
+
 VERSION: str = re.search(r'^#define PFAIR_VERSION "(.*)"', _TEXT, re.MULTILINE)[1]  # type: ignore[index]
 
 U32, U64, SIZE = ctypes.c_uint32, ctypes.c_uint64, ctypes.c_size_t
@@ -34,19 +36,19 @@ U32, U64, SIZE = ctypes.c_uint32, ctypes.c_uint64, ctypes.c_size_t
 _CODE = re.sub(r"/\*.*?\*/", "", _TEXT, flags=re.DOTALL)
 
 _TYPES: Dict[str, Any] = {
-    "uint64_t": U64, "uint32_t": U32, "int64_t": ctypes.c_int64, "uint8_t": ctypes.c_char, "size_t": SIZE, "bool": ctypes.c_bool,
+    "uint64_t": U64, "uint32_t": U32, "int64_t": ctypes.c_int64, "char": ctypes.c_char, "size_t": SIZE, "bool": ctypes.c_bool,
 }
 
 
 def _declared(text: str) -> Tuple[str, Any]:
-    """The name and the type of what C declares, as `const uint8_t *room`."""
+    """The name and the type of what C declares, as `const char *script`."""
     kind, star, name = re.fullmatch(r"\s*(?:const )?(\w+) (\*?)(\w+)\s*", text).groups()  # type: ignore[union-attr]
     if not star:
         return name, _TYPES[kind]
     if kind == "void":
         return name, ctypes.c_void_p
     # Of Python's bytes the library only reads.
-    return name, ctypes.c_char_p if "const uint8_t" in text else ctypes.POINTER(_TYPES[kind])
+    return name, ctypes.c_char_p if "const char" in text else ctypes.POINTER(_TYPES[kind])
 
 
 def _structs() -> None:
@@ -66,12 +68,16 @@ def struct(name: str) -> Any:
 
 def _load() -> Dict[str, Callable[..., int]]:
     """Each call of the header, by its name without pfair_."""
-    library = ctypes.CDLL(os.environ.get("PFAIR_LIBRARY") or str(HERE / "libpfair.so"))
+    path = os.environ.get("PFAIR_LIBRARY") or str(HERE / "libpfair.so")
+    library = ctypes.CDLL(path)
+    abi = library.pfair_abi() if hasattr(library, "pfair_abi") else None
+    if abi != ABI:
+        raise ImportError(f"{path} does not go with this package: its PFAIR_ABI is {abi}, not {ABI}", name="pfair", path=path)
     calls: Dict[str, Callable[..., int]] = {}
-    for gives, name, takes in re.findall(r"^(void|uint32_t) pfair_(\w+)\((.*?)\);", _CODE, re.DOTALL | re.MULTILINE):
+    for gives, name, takes in re.findall(r"^(\w+) pfair_(\w+)\((.*?)\);", _CODE, re.DOTALL | re.MULTILINE):
         call = getattr(library, f"pfair_{name}")
         call.restype = None if gives == "void" else U32
-        call.argtypes = [_declared(it)[1] for it in takes.split(",")]
+        call.argtypes = [_declared(it)[1] for it in takes.split(",") if it != "void"]
         calls[name] = call
     return calls
 

@@ -1,7 +1,9 @@
 """What a desk tells, as tuples with names."""
 
 from fractions import Fraction
-from typing import NamedTuple, Optional, Tuple
+from typing import Any, List, NamedTuple, Optional, Tuple
+
+NEVER = (1 << 64) - 1
 
 
 class Pick(NamedTuple):
@@ -9,6 +11,29 @@ class Pick(NamedTuple):
 
     task: int
     sub: int
+
+
+class Quantum(NamedTuple):
+    """A quantum of a slot: the processor gives it to the task's subtask `sub`, counted from 1."""
+
+    slot: int
+    processor: int
+    task: int
+    sub: int
+
+
+class Settings(NamedTuple):
+    """What a desk was opened with: the cap in 1/base, the distance of checkpoints and the horizon in slots."""
+
+    processors: int
+    base: int
+    cap: int
+    every: int
+    horizon: int
+
+
+# Who runs on each processor in a slot, or None where it is idle or out of use.
+Row = List[Optional[Pick]]
 
 
 class Lag(NamedTuple):
@@ -63,7 +88,7 @@ class Fit(NamedTuple):
 class Figures(NamedTuple):
     """What every simulator tells of a task: cost and quanta in quanta, the period, responses and tardiness in slots.
 
-    response is the least and the greatest of the jobs that were done, None where there is none; lag the least and the
+    response is the least and the greatest of the jobs that were done, None where there is none; scaled the least and the
     greatest lag times the period, while the task was inside.
     """
 
@@ -77,4 +102,10 @@ class Figures(NamedTuple):
     response: Optional[Tuple[int, int]]
     missed: int
     tardiness: int
-    lag: Tuple[int, int]
+    scaled: Tuple[int, int]
+
+
+def figures_of(it: Any) -> Figures:
+    response = (it.response_least, it.response_greatest) if it.jobs else None
+    first = (it.task, it.cost, it.period, it.quanta, it.migrations, it.preemptions, it.jobs)
+    return Figures(*first, response, it.missed, it.tardiness, (it.scaled_least, it.scaled_greatest))

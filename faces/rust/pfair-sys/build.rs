@@ -5,11 +5,12 @@
 use std::path::{Path, PathBuf};
 use std::{env, fs};
 
-/// Each line `PFAIR_NAME = NUMBER` of the header's enumerations, as a constant.
+/// Each line `PFAIR_NAME = NUMBER` of the header's enumerations, and `#define PFAIR_ABI NUMBER`, as a constant.
 fn constants(header: &str) -> String {
     let mut text = String::new();
     for line in header.lines() {
-        let Some((name, rest)) = line.trim().split_once(" = ") else {
+        let defined = line.strip_prefix("#define ").and_then(|it| it.split_once(' ')).filter(|it| it.0 == "PFAIR_ABI");
+        let Some((name, rest)) = defined.or_else(|| line.trim().split_once(" = ")) else {
             continue;
         };
         let number: String = rest.chars().take_while(char::is_ascii_digit).collect();
@@ -20,14 +21,14 @@ fn constants(header: &str) -> String {
     text
 }
 
-/// The header without its comments.
+/// The header without its comments, and without the functions that C makes itself.
 fn code(header: &str) -> String {
     let mut parts = header.split("/*");
     let mut text = parts.next().unwrap_or_default().to_string();
     for part in parts {
         text += part.split_once("*/").expect("a comment ends").1;
     }
-    text
+    text.split("static inline").next().unwrap_or_default().to_string()
 }
 
 /// The name and the type in Rust of what C declares, as `const uint8_t *room`.
@@ -36,9 +37,9 @@ fn declared(text: &str) -> (&str, String) {
     let (constant, kind) = kind.strip_prefix("const ").map_or((false, kind), |kind| (true, kind));
     let kind = match kind {
         "uint64_t" => "u64",
-        "uint32_t" => "u32",
+        "uint32_t" | "pfair_status" => "u32",
         "int64_t" => "i64",
-        "uint8_t" => "u8",
+        "char" => "core::ffi::c_char",
         "size_t" => "usize",
         "void" => "core::ffi::c_void",
         kind => kind,
@@ -79,7 +80,8 @@ fn calls(code: &str) -> String {
     for part in code.split(';').filter(|it| it.contains(" pfair_") && it.trim_end().ends_with(')')) {
         let (head, rest) = part.split_once('(').expect("a call has arguments");
         let (name, kind) = declared(head.lines().last().expect("a call has a name"));
-        let takes: Vec<String> = rest.trim_end_matches(')').split(',').map(argument).collect();
+        let takes = rest.trim_end_matches(')').split(',').filter(|it| *it != "void");
+        let takes: Vec<String> = takes.map(argument).collect();
         let gives = if kind.ends_with("c_void") { String::new() } else { format!(" -> {kind}") };
         text += &format!("    pub fn {name}({}){gives};\n", takes.join(", "));
     }

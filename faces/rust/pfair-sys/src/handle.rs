@@ -35,7 +35,7 @@ impl Handle {
     /// `pfair_open_script`.
     pub fn open_script(&mut self, caller: u32, script: &[u8], bad: &mut pfair_bad_record) -> u32 {
         // SAFETY: as in `run`.
-        unsafe { pfair_open_script(self.raw.get(), caller, script.as_ptr(), script.len(), bad) }
+        unsafe { pfair_open_script(self.raw.get(), caller, script.as_ptr().cast(), script.len(), bad) }
     }
 
     /// `pfair_close`.
@@ -62,7 +62,7 @@ impl Handle {
         room: &mut [u8],
         count: &mut usize,
     ) -> u32 {
-        let (at, length) = (room.as_mut_ptr(), room.len());
+        let (at, length) = (room.as_mut_ptr().cast(), room.len());
         // SAFETY: as in `edit`; the slice has `len` initialized bytes.
         unsafe { pfair_what_if(self.raw.get(), caller, change, strict, reply, kind, at, length, count) }
     }
@@ -70,7 +70,7 @@ impl Handle {
     /// `pfair_run`.
     pub fn run(&mut self, caller: u32, records: &[u8], bad: &mut pfair_bad_record) -> u32 {
         // SAFETY: as in `edit`; the slice has `len` initialized bytes.
-        unsafe { pfair_run(self.raw.get(), caller, records.as_ptr(), records.len(), bad) }
+        unsafe { pfair_run(self.raw.get(), caller, records.as_ptr().cast(), records.len(), bad) }
     }
 
     /// `pfair_step`.
@@ -100,7 +100,7 @@ impl Handle {
     /// `pfair_replies`.
     pub fn replies(&self, first: usize, room: &mut [u8], count: &mut usize) -> u32 {
         // SAFETY: as in `row`.
-        unsafe { pfair_replies(self.raw.get(), first, room.as_mut_ptr(), room.len(), count) }
+        unsafe { pfair_replies(self.raw.get(), first, room.as_mut_ptr().cast(), room.len(), count) }
     }
 
     /// `pfair_now`.
@@ -155,19 +155,19 @@ impl Handle {
     /// `pfair_text`.
     pub fn text(&self, kind: u64, room: &mut [u8], count: &mut usize) -> u32 {
         // SAFETY: as in `row`.
-        unsafe { pfair_text(self.raw.get(), kind, room.as_mut_ptr(), room.len(), count) }
+        unsafe { pfair_text(self.raw.get(), kind, room.as_mut_ptr().cast(), room.len(), count) }
     }
 
     /// `pfair_part`.
     pub fn part(&self, kind: u64, from: u64, to: u64, room: &mut [u8], count: &mut usize) -> u32 {
         // SAFETY: as in `row`.
-        unsafe { pfair_part(self.raw.get(), kind, from, to, room.as_mut_ptr(), room.len(), count) }
+        unsafe { pfair_part(self.raw.get(), kind, from, to, room.as_mut_ptr().cast(), room.len(), count) }
     }
 
     /// `pfair_svg`.
-    pub fn svg(&self, from: u64, to: u64, look: &pfair_look, room: &mut [u8], count: &mut usize) -> u32 {
+    pub fn svg(&self, from: u64, to: u64, look: &pfair_picture_look, room: &mut [u8], count: &mut usize) -> u32 {
         // SAFETY: as in `row`; the look is a reference.
-        unsafe { pfair_svg(self.raw.get(), from, to, look, room.as_mut_ptr(), room.len(), count) }
+        unsafe { pfair_svg(self.raw.get(), from, to, look, room.as_mut_ptr().cast(), room.len(), count) }
     }
 
     fn fill<T>(&self, call: Filling<T>, room: &mut [T], count: &mut usize) -> u32 {
@@ -179,31 +179,37 @@ impl Handle {
 /// `pfair_script_faults`.
 pub fn script_faults(script: &[u8], room: &mut [u8], count: &mut usize) -> u32 {
     // SAFETY: as in `version`; the script is a slice too, and no two of them overlap.
-    unsafe { pfair_script_faults(script.as_ptr(), script.len(), room.as_mut_ptr(), room.len(), count) }
+    unsafe { pfair_script_faults(script.as_ptr().cast(), script.len(), room.as_mut_ptr().cast(), room.len(), count) }
 }
 
 /// `pfair_record_faults`.
 pub fn record_faults(records: &[u8], room: &mut [u8], count: &mut usize) -> u32 {
     // SAFETY: as in `script_faults`.
-    unsafe { pfair_record_faults(records.as_ptr(), records.len(), room.as_mut_ptr(), room.len(), count) }
+    unsafe { pfair_record_faults(records.as_ptr().cast(), records.len(), room.as_mut_ptr().cast(), room.len(), count) }
+}
+
+/// `pfair_abi`.
+pub fn abi() -> u32 {
+    // SAFETY: it takes nothing.
+    unsafe { pfair_abi() }
 }
 
 /// `pfair_version`.
 pub fn version(room: &mut [u8], count: &mut usize) -> u32 {
     // SAFETY: the slice has `len` initialized bytes, and the count is a reference.
-    unsafe { pfair_version(room.as_mut_ptr(), room.len(), count) }
+    unsafe { pfair_version(room.as_mut_ptr().cast(), room.len(), count) }
 }
 
 /// `pfair_name`.
 pub fn name(number: u32, room: &mut [u8], count: &mut usize) -> u32 {
     // SAFETY: as in `version`.
-    unsafe { pfair_name(number, room.as_mut_ptr(), room.len(), count) }
+    unsafe { pfair_name(number, room.as_mut_ptr().cast(), room.len(), count) }
 }
 
 /// `pfair_sentence`.
 pub fn sentence(number: u32, room: &mut [u8], count: &mut usize) -> u32 {
     // SAFETY: as in `version`.
-    unsafe { pfair_sentence(number, room.as_mut_ptr(), room.len(), count) }
+    unsafe { pfair_sentence(number, room.as_mut_ptr().cast(), room.len(), count) }
 }
 
 impl Drop for Handle {

@@ -10,6 +10,6 @@ pub mod raw {
     include!(concat!(env!("OUT_DIR"), "/raw.rs"));
 }
 
-pub use handle::{name, record_faults, script_faults, sentence, version, Handle};
+pub use handle::{abi, name, record_faults, script_faults, sentence, version, Handle};
 
 include!(concat!(env!("OUT_DIR"), "/numbers.rs"));

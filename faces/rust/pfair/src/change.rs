@@ -1,8 +1,22 @@
+use crate::ParseError;
 use pfair_sys as sys;
 use pfair_sys::raw::{pfair_change, pfair_event};
+use std::fmt;
+use std::str::FromStr;
 
-/// Something that happens in a slot of the plan.
-#[derive(Clone, Copy, Debug, PartialEq, Eq)]
+/// Something that happens in a slot of the plan. As a text it is the record of a script of version 2.
+///
+/// ```
+/// # use pfair::Event;
+/// let join: Event = "join,0,7,2,3,0".parse()?;
+/// assert_eq!(join, Event::join(0, 7, 2, 3));
+/// assert_eq!(join.to_string(), "join,0,7,2,3,0");
+/// let fault = "join,0,camera,2,3,0".parse::<Event>().unwrap_err();
+/// assert_eq!(fault.to_string(), "\"join,0,camera,2,3,0\" is no event");
+/// # Ok::<(), pfair::ParseError>(())
+/// ```
+#[derive(Clone, Copy, Debug, PartialEq, Eq, Hash)]
+#[non_exhaustive]
 pub enum Event {
     /// The task joins with the weight cost/period. A subtask may run up to `early` slots before its release.
     Join {
@@ -72,8 +86,10 @@ impl Event {
     }
 }
 
-/// A change of the plan.
-#[derive(Clone, Copy, Debug, PartialEq, Eq)]
+/// A change of the plan. As a text it is the record of a script of version 2: an insert is the event alone, and the others are
+/// `alter,3,leave,5,7` and `strike,3`.
+#[derive(Clone, Copy, Debug, PartialEq, Eq, Hash)]
+#[non_exhaustive]
 pub enum Change {
     /// A new event, which gets the next number.
     Insert(Event),
@@ -90,6 +106,80 @@ impl Change {
             Change::Insert(event) => pfair_change { kind: sys::PFAIR_INSERT.into(), id: 0, event: event.to_raw() },
             Change::Alter(id, event) => pfair_change { kind: sys::PFAIR_ALTER.into(), id, event: event.to_raw() },
             Change::Strike(id) => pfair_change { kind: sys::PFAIR_STRIKE.into(), id, event: none },
+        }
+    }
+}
+
+/// Digits alone, of a number of 64 bits.
+fn number(field: &str) -> Option<u64> {
+    if field.bytes().all(|it| it.is_ascii_digit()) {
+        field.parse().ok()
+    } else {
+        None
+    }
+}
+
+/// The event of a record's fields.
+fn event_of(kind: &str, numbers: &[u64]) -> Option<Event> {
+    match (kind, numbers) {
+        ("join", &[slot, task, cost, period, early]) => Some(Event::Join { slot, task, cost, period, early }),
+        ("leave", &[slot, task]) => Some(Event::Leave { slot, task }),
+        ("delay", &[slot, task, by]) => Some(Event::Delay { slot, task, by }),
+        ("limit", &[slot, count]) => Some(Event::Limit { slot, count }),
+        _ => None,
+    }
+}
+
+fn event_in(record: &str) -> Option<Event> {
+    let mut fields = record.split(',');
+    let kind = fields.next()?;
+    event_of(kind, &fields.map(number).collect::<Option<Vec<u64>>>()?)
+}
+
+fn change_in(record: &str) -> Option<Change> {
+    if let Some(id) = record.strip_prefix("strike,") {
+        return number(id).map(Change::Strike);
+    }
+    let Some(altered) = record.strip_prefix("alter,") else {
+        return event_in(record).map(Change::Insert);
+    };
+    let (id, event) = altered.split_once(',')?;
+    Some(Change::Alter(number(id)?, event_in(event)?))
+}
+
+impl FromStr for Event {
+    type Err = ParseError;
+
+    fn from_str(record: &str) -> Result<Self, ParseError> {
+        event_in(record).ok_or_else(|| ParseError::new(record, "event"))
+    }
+}
+
+impl FromStr for Change {
+    type Err = ParseError;
+
+    fn from_str(record: &str) -> Result<Self, ParseError> {
+        change_in(record).ok_or_else(|| ParseError::new(record, "change"))
+    }
+}
+
+impl fmt::Display for Event {
+    fn fmt(&self, f: &mut fmt::Formatter<'_>) -> fmt::Result {
+        match self {
+            Event::Join { slot, task, cost, period, early } => write!(f, "join,{slot},{task},{cost},{period},{early}"),
+            Event::Leave { slot, task } => write!(f, "leave,{slot},{task}"),
+            Event::Delay { slot, task, by } => write!(f, "delay,{slot},{task},{by}"),
+            Event::Limit { slot, count } => write!(f, "limit,{slot},{count}"),
+        }
+    }
+}
+
+impl fmt::Display for Change {
+    fn fmt(&self, f: &mut fmt::Formatter<'_>) -> fmt::Result {
+        match self {
+            Change::Insert(event) => write!(f, "{event}"),
+            Change::Alter(id, event) => write!(f, "alter,{id},{event}"),
+            Change::Strike(id) => write!(f, "strike,{id}"),
         }
     }
 }

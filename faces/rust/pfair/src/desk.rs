@@ -4,6 +4,7 @@ use crate::{Change, Denial, Error, Event, Figures, Fit, Lag, Look, Miss, Part, R
 use pfair_sys as sys;
 use pfair_sys::raw::{pfair_bad_record, pfair_fit, pfair_pick, pfair_reply, pfair_setup};
 use pfair_sys::Handle;
+use std::fmt;
 use std::ops::Range;
 
 /// A planner's desk. It is `Send`, and drops its memory when it goes.
@@ -32,7 +33,7 @@ impl Desk {
     /// `BadSettings`, `NoMemory`.
     pub fn open(settings: Settings) -> Result<Self, Error> {
         let Settings { processors, base, cap, every, wide } = settings;
-        let mut handle = Handle::closed();
+        let mut handle = closed();
         answer(handle.open(wide, processors, base, cap, every), NOTHING)?;
         Ok(Desk { handle, settings, caller: 0 })
     }
@@ -52,7 +53,7 @@ impl Desk {
     /// # Ok::<(), Error>(())
     /// ```
     pub fn open_script(script: &str) -> Result<Self, Error> {
-        let (mut handle, caller) = (Handle::closed(), 0);
+        let (mut handle, caller) = (closed(), 0);
         let mut bad = pfair_bad_record::default();
         answer_records(handle.open_script(caller, script.as_bytes(), &mut bad), bad, || script_faults(script))?;
         let mut setup = pfair_setup::default();
@@ -365,6 +366,12 @@ impl Desk {
     }
 }
 
+/// A handle of the library, which goes with the header that this crate was compiled with.
+fn closed() -> Handle {
+    assert_eq!(sys::abi(), sys::PFAIR_ABI, "libpfair.a does not go with pfair.h: its PFAIR_ABI is the first of these");
+    Handle::closed()
+}
+
 /// All that a call fills, in a room that is made as long as the call asks for.
 pub(crate) fn all<T: Clone + Default>(mut call: impl FnMut(&mut [T], &mut usize) -> u32) -> Result<Vec<T>, Error> {
     let mut room = Vec::new();
@@ -386,7 +393,27 @@ pub(crate) fn text(call: impl FnMut(&mut [u8], &mut usize) -> u32) -> Result<Str
     Ok(String::from_utf8(all(call)?).expect("the library's texts are ASCII"))
 }
 
+/// The desk as a whole is told by its settings and by how far it went.
+impl fmt::Debug for Desk {
+    fn fmt(&self, f: &mut fmt::Formatter<'_>) -> fmt::Result {
+        let mut told = f.debug_struct("Desk");
+        told.field("settings", &self.settings).field("caller", &self.caller);
+        told.field("now", &self.now()).field("entries", &self.entries()).finish_non_exhaustive()
+    }
+}
+
 /// The rows of the slots stepped, in their order.
+impl<'a> IntoIterator for &'a Desk {
+    type Item = Row;
+    type IntoIter = Rows<'a>;
+
+    fn into_iter(self) -> Rows<'a> {
+        self.rows()
+    }
+}
+
+/// The rows of the slots stepped, in their order.
+#[derive(Clone, Debug)]
 pub struct Rows<'a> {
     desk: &'a Desk,
     slot: u64,

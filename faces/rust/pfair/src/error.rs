@@ -4,7 +4,8 @@ use pfair_sys::raw::{pfair_bad_record, pfair_reply};
 use std::fmt;
 
 /// Why a call gave nothing.
-#[derive(Clone, Debug, PartialEq, Eq)]
+#[derive(Clone, Debug, PartialEq, Eq, Hash)]
+#[non_exhaustive]
 pub enum Error {
     /// A number of the settings is out of its limits.
     BadSettings,
@@ -19,7 +20,7 @@ pub enum Error {
 }
 
 /// A record that is none of a script's: where it is, counted from 1, and why.
-#[derive(Clone, Debug, PartialEq, Eq)]
+#[derive(Clone, Debug, PartialEq, Eq, Hash)]
 pub struct BadRecord {
     /// Its number.
     pub number: u64,
@@ -32,7 +33,8 @@ pub struct BadRecord {
 }
 
 /// Why the desk refused a command.
-#[derive(Clone, Copy, Debug, PartialEq, Eq)]
+#[derive(Clone, Copy, Debug, PartialEq, Eq, Hash)]
+#[non_exhaustive]
 pub enum Refusal {
     /// No event has this number.
     EventNotFound,
@@ -71,7 +73,8 @@ pub enum Refusal {
 macro_rules! numbered {
     ($(#[$about:meta])* $name:ident { $($(#[$meaning:meta])* $value:ident = $number:ident,)* }) => {
         $(#[$about])*
-        #[derive(Clone, Copy, Debug, PartialEq, Eq)]
+        #[derive(Clone, Copy, Debug, PartialEq, Eq, Hash)]
+        #[non_exhaustive]
         #[repr(u32)]
         pub enum $name {
             $($(#[$meaning])* $value = sys::$number,)*

@@ -2,7 +2,7 @@ use pfair_sys::raw::pfair_pick;
 use std::fmt;
 
 /// A quantum that a processor gives: to this subtask of this task.
-#[derive(Clone, Copy, Debug, PartialEq, Eq)]
+#[derive(Clone, Copy, Debug, PartialEq, Eq, Hash)]
 pub struct Pick {
     /// The task's number, 1 to 4,095.
     pub task: u32,
@@ -11,7 +11,7 @@ pub struct Pick {
 }
 
 /// Who runs on each processor in a slot; `None` where it is idle or out of use.
-#[derive(Clone, Debug, PartialEq, Eq)]
+#[derive(Clone, Debug, PartialEq, Eq, Hash)]
 pub struct Row {
     /// The slot.
     pub slot: u64,

@@ -1,7 +1,7 @@
 use pfair_sys::raw::pfair_setup;
 
 /// What a desk is opened with.
-#[derive(Clone, Copy, Debug, PartialEq, Eq)]
+#[derive(Clone, Copy, Debug, PartialEq, Eq, Hash)]
 pub struct Settings {
     /// 1 to 64.
     pub processors: u64,

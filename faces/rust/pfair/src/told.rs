@@ -2,7 +2,7 @@ use crate::DenialReason;
 use pfair_sys::raw::{pfair_denial, pfair_fit, pfair_lag, pfair_miss, pfair_task_figures};
 
 /// How far a task is from its fair share.
-#[derive(Clone, Copy, Debug, PartialEq, Eq)]
+#[derive(Clone, Copy, Debug, PartialEq, Eq, Hash)]
 pub struct Lag {
     /// The task's number.
     pub task: u64,
@@ -17,7 +17,7 @@ pub struct Lag {
 }
 
 /// A missed window: the subtask did not run before its deadline.
-#[derive(Clone, Copy, Debug, PartialEq, Eq)]
+#[derive(Clone, Copy, Debug, PartialEq, Eq, Hash)]
 pub struct Miss {
     /// The task's number.
     pub task: u64,
@@ -30,7 +30,7 @@ pub struct Miss {
 }
 
 /// An event of the plan that has no effect, since a rule of admission fails in its slot.
-#[derive(Clone, Copy, Debug, PartialEq, Eq)]
+#[derive(Clone, Copy, Debug, PartialEq, Eq, Hash)]
 pub struct Denial {
     /// In slots.
     pub slot: u64,
@@ -41,7 +41,7 @@ pub struct Denial {
 }
 
 /// What every simulator tells of a task.
-#[derive(Clone, Copy, Debug, PartialEq, Eq)]
+#[derive(Clone, Copy, Debug, PartialEq, Eq, Hash)]
 pub struct Figures {
     /// The task's number.
     pub task: u64,
@@ -64,11 +64,11 @@ pub struct Figures {
     /// The most slots by which a missed subtask ran late.
     pub tardiness: u64,
     /// The least and the greatest lag times the period, while the task was inside.
-    pub lag: (i64, i64),
+    pub scaled: (i64, i64),
 }
 
 /// Whether the loads of the slots stepped were within the processors in use.
-#[derive(Clone, Copy, Debug, PartialEq, Eq)]
+#[derive(Clone, Copy, Debug, PartialEq, Eq, Hash)]
 pub struct Fit {
     /// The first slot whose load was above the processors in use. `None` where there was none: then no window was missed.
     pub first: Option<u64>,
@@ -96,7 +96,7 @@ impl From<pfair_task_figures> for Figures {
             response: (raw.jobs != 0).then_some((raw.response_least, raw.response_greatest)),
             missed: raw.missed,
             tardiness: raw.tardiness,
-            lag: (raw.lag_least, raw.lag_greatest),
+            scaled: (raw.scaled_least, raw.scaled_greatest),
         }
     }
 }

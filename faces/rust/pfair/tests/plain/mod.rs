@@ -50,6 +50,7 @@ fn slot_of(event: &Event) -> u64 {
         | Event::Leave { slot, .. }
         | Event::Delay { slot, .. }
         | Event::Limit { slot, .. } => slot,
+        _ => unreachable!("another kind"),
     }
 }
 
@@ -60,6 +61,7 @@ fn place_of(id: u64, event: &Event) -> (u64, u64, u64) {
         Event::Leave { task, .. } => (1, task, id),
         Event::Join { task, .. } => (2, task, id),
         Event::Delay { task, .. } => (3, task, id),
+        _ => unreachable!("another kind"),
     }
 }
 
@@ -73,6 +75,7 @@ impl Plan {
             }
             Change::Alter(id, event) => (event, Some(*id)),
             Change::Strike(_) => return None,
+            _ => unreachable!("another kind"),
         };
         self.event_fault(event, replaced).or_else(|| match replaced {
             None if self.events.len() >= 65_535 => Some(Refusal::TooManyEvents),
@@ -141,6 +144,7 @@ impl Plan {
                 plan.events.remove(&id);
                 id
             }
+            _ => unreachable!("another kind"),
         };
         (id, plan)
     }
@@ -193,6 +197,7 @@ impl Run {
             }
             Event::Leave { slot, task } => self.inside(task)?.leave(slot)?,
             Event::Delay { slot, task, by } => self.inside(task)?.delay(slot, by)?,
+            _ => unreachable!("another kind"),
         }
         Ok(())
     }

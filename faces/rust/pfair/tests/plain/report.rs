@@ -9,6 +9,7 @@ fn code(reason: DenialReason) -> u64 {
         DenialReason::NotInside => 21,
         DenialReason::TooEarly => 22,
         DenialReason::Released => 23,
+        _ => unreachable!("another kind"),
     }
 }
 

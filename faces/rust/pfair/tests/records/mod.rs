@@ -8,6 +8,7 @@ fn event_record(event: &Event) -> String {
         Event::Leave { slot, task } => format!("leave,{slot},{task}"),
         Event::Delay { slot, task, by } => format!("delay,{slot},{task},{by}"),
         Event::Limit { slot, count } => format!("limit,{slot},{count}"),
+        _ => unreachable!("another kind"),
     }
 }
 
@@ -17,6 +18,7 @@ pub fn record(change: &Change, strict: bool) -> String {
         Change::Insert(event) => event_record(event),
         Change::Alter(id, event) => format!("alter,{id},{}", event_record(event)),
         Change::Strike(id) => format!("strike,{id}"),
+        _ => unreachable!("another kind"),
     };
     format!("{}{change}\n", if strict { "strict," } else { "" })
 }
@@ -28,6 +30,7 @@ pub fn denial(reason: DenialReason) -> &'static str {
         DenialReason::NotInside => "21 NotInside",
         DenialReason::TooEarly => "22 TooEarly",
         DenialReason::Released => "23 Released",
+        _ => unreachable!("another kind"),
     }
 }
 
@@ -48,6 +51,7 @@ fn refusal_text(refusal: Refusal) -> String {
         Refusal::CountOutOfRange => "24 CountOutOfRange",
         Refusal::AtHorizon => "30 AtHorizon",
         Refusal::WouldDeny { event, reason } => return format!("31 WouldDeny {event} {}", denial(reason)),
+        _ => unreachable!("another kind"),
     };
     text.to_string()
 }
