@@ -72,6 +72,11 @@ typedef enum pfair_status {
     PFAIR_OUT_OF_RANGE = 68,       /* a slot that was not stepped, a range, a page or a look that cannot be shown */
     PFAIR_TOO_SHORT = 69,          /* the caller's room is too short: *count tells how long it must be */
     PFAIR_BAD_RECORD = 70,         /* a record is bad: pfair_bad_record tells where, pfair_script_faults why */
+    PFAIR_BUSY = 71,               /* of pfair_shared.h: another caller is at the desk: nothing was done, try again */
+    PFAIR_PENDING = 72,            /* a quantum lies untaken: no step was taken */
+    PFAIR_NOTHING = 73,            /* there is no quantum to take */
+    PFAIR_NOT_YET = 74,            /* the slot is not stepped yet */
+    PFAIR_NO_PLACE = 75,           /* each caller, or reader, was opened */
     PFAIR_NO_STATUS = INT32_MAX    /* none: it gives the type 32 bits with each compiler */
 } pfair_status;
 
@@ -122,7 +127,7 @@ enum {
     PFAIR_LOAD = 12,      /* CSV: load and room, where they change (*) */
     PFAIR_QUANTA = 13,    /* CSV: the schedule with a line for each quantum (*) */
     PFAIR_TRACE = 14,     /* JSON: the run as trace events, for Perfetto and chrome://tracing */
-    PFAIR_C = 15,         /* the schedule as a C array; its PFAIR_PROCESSORS keeps it out of files with this header */
+    PFAIR_C = 15,         /* the schedule as a C header; its PFAIR_PROCESSORS keeps it out of files with this header */
     PFAIR_FULL = 16,      /* the report with settings, events, figures and refused commands, as a line of JSON */
     PFAIR_HTML = 17,      /* a page to look around in, one file, of at most 65,536 slots */
     PFAIR_TABLES = 18     /* the tables schedule, lags, misses and denials, each after a line with its name */

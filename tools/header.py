@@ -1,16 +1,20 @@
-"""include/pfair.h beside pf_c_api: the numbers, structs and calls of one are those of the other."""
+"""The headers in include/ beside the crates that have their calls: the numbers, structs and calls of one are those of the other."""
 import re
 
 from programs import TOP
 
-HEADER = TOP / "include" / "pfair.h"
-FACE = TOP / "crates" / "pf_c_api" / "src"
+# The headers, each beside the crate that has its calls.
+HEADERS = {TOP / "include" / "pfair.h": "pf_c_api", TOP / "include" / "pfair_shared.h": "pf_shared_c_api"}
+HEADER = next(iter(HEADERS))
 
-# Where the crates have the numbers of the header, and how the names begin there.
+# The crate of the structs that both have.
+FORMS = "pf_c_forms"
+
+# Where the crates have the numbers of the headers, and how the names begin there.
 NUMBERS = {
-    "pf_c_api/src/status.rt": r"pub const (\w+): u32 = (\d+);",
-    "pf_c_api/src/raw_event.rt": r"pub const (\w+): u64 = (\d+);",
-    "pf_c_api/src/raw_change.rt": r"pub const (\w+): u64 = (\d+);",
+    "pf_c_forms/src/status.rt": r"pub const (\w+): u32 = (\d+);",
+    "pf_c_forms/src/raw_event.rt": r"pub const (\w+): u64 = (\d+);",
+    "pf_c_forms/src/raw_change.rt": r"pub const (\w+): u64 = (\d+);",
     "pf_c_api/src/raw_look.rt": r"pub const (\w+): u64 = (\d+);",
     "pf_c_api/src/text_kind.rt": r"pub const (\w+): u64 = (\d+);",
     "pf_scenario/specs/Refusals.antt": r"edit_fault_code \(?(\w+)(?: fault\))? = (\d+)",
@@ -18,15 +22,20 @@ NUMBERS = {
     "pf_weight/specs/Refusals.antt": r"weight_fault_code (\w+) = (\d+)",
 }
 
-# What C calls the types of pf_c_api; the others by their names there, as pfair_bad_record for RawBadRecord.
+# What C calls the types of the crates; the others by their names there, as pfair_bad_record for RawBadRecord.
 TYPES = {
     "u8": "char", "u32": "uint32_t", "u64": "uint64_t", "i64": "int64_t", "usize": "size_t", "bool": "bool",
-    "Handle": "pfair_desk", "RawFigures": "pfair_task_figures", "RawLook": "pfair_picture_look", "RawSettings": "pfair_setup",
+    "Handle": "pfair_desk", "SharedHandle": "pfair_shared", "CallerHandle": "pfair_caller", "ReaderHandle": "pfair_reader",
+    "SnapshotHandle": "pfair_snapshot", "RawFigures": "pfair_task_figures", "RawLook": "pfair_picture_look", "RawSettings": "pfair_setup",
 }
 
 
+# The handles, whose one field is the headers' own.
+HANDLES = ("pfair_desk", "pfair_shared", "pfair_caller", "pfair_reader", "pfair_snapshot")
+
+
 class Differs(Exception):
-    """What the header has and pf_c_api has not, or the other way."""
+    """What a header has and the crates have not, or the other way."""
 
 
 def in_c(name):
@@ -35,15 +44,20 @@ def in_c(name):
 
 
 def header_code():
-    """The header without its comments."""
-    return re.sub(r"/\*.*?\*/", "", HEADER.read_text(), flags=re.S)
+    """The headers without their comments."""
+    return re.sub(r"/\*.*?\*/", "", "".join(it.read_text() for it in HEADERS), flags=re.S)
+
+
+def sources(*crates):
+    """The texts of these crates."""
+    return [it.read_text() for crate in crates for it in sorted((TOP / "crates" / crate / "src").glob("*.rt"))]
 
 
 def compare(here, there, what):
     """That both have the same of everything."""
     for name in sorted({*here, *there}):
         if here.get(name) != there.get(name):
-            raise Differs(f"{what} {name}: {here.get(name)} in pf_c_api, {there.get(name)} in the header")
+            raise Differs(f"{what} {name}: {here.get(name)} in the crates, {there.get(name)} in the headers")
 
 
 def numbers():
@@ -60,25 +74,26 @@ def numbers():
 
 def version():
     """The version, as a text and in its parts, and the number of the ABI."""
-    told = re.search(r'const VERSION: &str = "(.*)"', (FACE / "version.rt").read_text())[1]
+    made = (TOP / "crates" / HEADERS[HEADER] / "src" / "version.rt").read_text()
+    told = re.search(r'const VERSION: &str = "(.*)"', made)[1]
     text = re.search(r'^#define PFAIR_VERSION "(.*)"', header_code(), re.M)[1]
     parts = ".".join(re.findall(r"^#define PFAIR_VERSION_\w+ (\d+)", header_code(), re.M))
     if not told == text == parts:
-        raise Differs(f"the version is {told} in pf_c_api, {text} and {parts} in the header")
-    abi = re.search(r"const ABI: u32 = (\d+)", (FACE / "version.rt").read_text())[1]
+        raise Differs(f"the version is {told} in the crate, {text} and {parts} in the header")
+    abi = re.search(r"const ABI: u32 = (\d+)", made)[1]
     if f"#define PFAIR_ABI {abi}\n" not in header_code():
-        raise Differs(f"PFAIR_ABI is {abi} in pf_c_api")
+        raise Differs(f"PFAIR_ABI is {abi} in the crate")
 
 
 def structs():
-    """The structs: their fields in order, with their types. The handle's one field is the header's own."""
+    """The structs: their fields in order, with their types."""
     here, there = {}, {}
-    for file in sorted(FACE.glob("raw_*.rt")):
-        for name, fields in re.findall(r"#\[repr\(C\)\]\n(?:#.*\n)?pub struct (\w+) \{(.*?)\n\}", file.read_text(), re.S):
+    for text in sources(FORMS, *HEADERS.values()):
+        for name, fields in re.findall(r"#\[repr\(C\)\]\n(?:#.*\n)?pub struct (Raw\w+) \{(.*?)\n\}", text, re.S):
             here[in_c(name)] = [(in_c(kind), field) for field, kind in re.findall(r"pub (\w+): (\w+),", fields)]
     for name, fields in re.findall(r"typedef struct (\w+) \{(.*?)\}", header_code(), re.S):
-        there[name] = re.findall(r"(\w+) (\w+);", fields)
-    del there["pfair_desk"]
+        if name not in HANDLES:
+            there[name] = re.findall(r"(\w+) (\w+);", fields)
     compare(here, there, "the struct")
 
 
@@ -91,15 +106,15 @@ def argument(kind):
 
 
 def declared():
-    """The calls of the header: what each gives, its name, and what it takes."""
+    """The calls of the headers: what each gives, its name, and what it takes."""
     return re.findall(r"^(\w+) (pfair_\w+)\((.*?)\);", header_code(), re.S | re.M)
 
 
 def calls():
     """The calls: the types of their arguments in order, but for the allocator, which C does not pass, and what they give."""
     here, there = {}, {}
-    for file in sorted(FACE.glob("*.rt")):
-        for name, takes, gives in re.findall(r'pub extern "C" fn (\w+)\((.*?)\)(?: -> (\w+))?\n', file.read_text(), re.S):
+    for text in sources(*HEADERS.values()):
+        for name, takes, gives in re.findall(r'pub extern "C" fn (\w+)\((.*?)\)(?: -> (\w+))?\n', text, re.S):
             kinds = [kind for kind in re.findall(r"\w+: ([^,\n]+)", takes) if kind != "Global"]
             here[name] = (in_c(gives) if gives else "void", [it for kind in kinds for it in argument(kind)])
     for gives, name, takes in declared():
@@ -109,6 +124,6 @@ def calls():
 
 
 def agrees():
-    """Raises where the header and pf_c_api differ."""
+    """Raises where the headers and the crates differ."""
     for part in (numbers, version, structs, calls):
         part()

@@ -322,7 +322,7 @@ static int names(void) {
         CHECK(pfair_sentence(number, text, sizeof text, &count) == status);
         known += status == PFAIR_OK;
     }
-    CHECK(known == 29);
+    CHECK(known == 34);
     memset(text, 0, sizeof text);
     CHECK(pfair_name(PFAIR_JOIN_TWICE, text, 3, &count) == PFAIR_TOO_SHORT && count == 9 && text[0] == 0);
     CHECK(pfair_name(PFAIR_JOIN_TWICE, text, sizeof text, &count) == PFAIR_OK && strcmp(text, "JoinTwice") == 0);

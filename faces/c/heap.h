@@ -7,6 +7,7 @@
  *   portBYTE_ALIGNMENT 16.)
  * - pfair_heap_realloc keeps the first kept bytes, or as many as the new size; where it gives nothing, the old block stays.
  * - `at` is never null, also where there was no memory: `ok` alone tells.
+ * - Where desks are used in several threads, or a shared one (pfair_shared.h), they are called from several at once.
  */
 #ifndef PFAIR_HEAP_H
 #define PFAIR_HEAP_H

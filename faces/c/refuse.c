@@ -1,9 +1,9 @@
 /*
- * Memory that is refused: one plan is made again and again, each time with another of its allocations refused. A call that
- * tells so has left the desk as it was, and no block of memory is lost. It takes the place of heap.c.
+ * Memory that is refused: one plan is made again and again, each time with another of its allocations refused, and so at a
+ * shared desk. A call that tells so has left the desk as it was, and no block of memory is lost. It takes the place of heap.c.
  */
 #include "heap.h"
-#include "pfair.h"
+#include "pfair_shared.h"
 
 #include <stdio.h>
 #include <stdlib.h>
@@ -107,15 +107,83 @@ static int plan(void) {
     return told;
 }
 
-int main(void) {
+/* Opens all handles of a shared desk. One allocation is refused, so a call that is made again succeeds. */
+static int open_all(pfair_shared *desk, pfair_caller *caller, pfair_reader *reader) {
+    int told = 0;
+    while (pfair_caller_open(desk, caller) == PFAIR_NO_MEMORY) told = 1;
+    while (pfair_reader_open(desk, reader) == PFAIR_NO_MEMORY) told = 1;
+    pfair_shared_close(desk);
+    if (caller->inner == NULL || reader->inner == NULL) fail("no place");
+    return told;
+}
+
+/* A change and a step, with its quanta taken: where memory is refused there is no entry. */
+static int command(pfair_caller *caller, uint64_t k) {
+    pfair_change change = change_of(k);
+    pfair_reply reply = {77, 77};
+    pfair_pick row[2];
+    uint64_t slot = 77, before = 0, after = 0;
+    uint32_t processor = 0;
+    pfair_quantum quantum;
+    int told = 0;
+    pfair_caller_look(caller, &before);
+    while (pfair_caller_edit(caller, &change, k % 3 == 0, &reply) == PFAIR_NO_MEMORY) {
+        told = 1;
+        if (reply.event != 77 || reply.reason != 77) fail("a changed reply");
+        if (pfair_caller_look(caller, &after) != PFAIR_OK || after != before) fail("an entry");
+    }
+    while (pfair_caller_step(caller, &slot, &processor, row, 2) == PFAIR_NO_MEMORY) {
+        told = 1;
+        if (slot != 77 || pfair_caller_look(caller, &after) != PFAIR_OK || after != before + 1) fail("a step");
+    }
+    for (processor = 0; processor < 2; processor++)
+        if ((row[processor].task != 0) != (pfair_caller_take(caller, processor, &quantum) == PFAIR_OK)) fail("another row");
+    return told;
+}
+
+/* The same plan at a shared desk, and whether a call told of refused memory. */
+static int share(void) {
+    pfair_shared desk = PFAIR_NONE;
+    pfair_caller caller = PFAIR_NONE;
+    pfair_reader reader = PFAIR_NONE;
+    pfair_snapshot snapshot = PFAIR_NONE, again = PFAIR_NONE;
+    int told = 0;
+    if (pfair_shared_open(&desk, 2, 12, 30, 3, 1, 1) == PFAIR_NO_MEMORY) {
+        if (desk.inner != NULL || living != 0) fail("a shared desk that was not opened");
+        return 1;
+    }
+    told |= open_all(&desk, &caller, &reader);
+    for (uint64_t k = 0; k < 30; k++) {
+        uint64_t entries = 0, slots = 0;
+        told |= command(&caller, k);
+        while (pfair_reader_read(&reader, &snapshot) == PFAIR_NO_MEMORY) told = 1;
+        while (pfair_snapshot_again(&snapshot, &again) == PFAIR_NO_MEMORY) told = 1;
+        if (pfair_snapshot_now(&again, &entries, &slots) != PFAIR_OK || entries != 2 * k + 2 || slots != k + 1) fail("a snapshot");
+    }
+    pfair_caller_close(&caller);
+    pfair_snapshot_close(&snapshot);
+    pfair_snapshot_close(&again);
+    pfair_reader_close(&reader);
+    if (living != 0) fail("blocks of a shared desk are left");
+    return told;
+}
+
+/* Runs this once with each of its allocations refused. */
+static void refuse_each(const char *what, int (*run)(void)) {
     long most, told = 0;
-    plan();
+    asked = refused = 0;
+    run();
     most = asked;
     for (refused = 1; refused <= most; refused++) {
         asked = 0;
-        told += plan();
+        told += run();
     }
     if (told == 0) fail("no call told");
-    printf("%ld allocations, each refused once; %ld runs had a call that told so\n", most, told);
+    printf("%s: %ld allocations, each refused once; %ld runs had a call that told so\n", what, most, told);
+}
+
+int main(void) {
+    refuse_each("plan", plan);
+    refuse_each("shared desk", share);
     return 0;
 }

@@ -1,7 +1,7 @@
 #!/usr/bin/env python3
 """Makes the wheel of the Python package with the standard library alone: make_wheel.py LIBRARY.so FOLDER
 
-The wheel has the package, the library and the header, and is for every Python 3 on systems with the processor of this
+The wheel has the package, the library and the headers, and is for every Python 3 on systems with the processor of this
 machine and a C library that is no older than the one that the library needs, and than 2.17. Its path is written to standard output.
 
 pip makes it by `build_wheel` from the source package that `build_sdist` makes; PFAIR_LIBRARY then names the library.
@@ -20,8 +20,9 @@ from pathlib import Path
 
 HERE = Path(__file__).resolve().parent
 
-# In the repository the header is in include/; in a source package it lies in the package.
-HEADERS = (HERE / "pfair" / "pfair.h", HERE.parents[1] / "include" / "pfair.h")
+# In the repository the headers are in include/; in a source package they lie in the package.
+FOLDERS = (HERE / "pfair", HERE.parents[1] / "include")
+HEADERS = ("pfair.h", "pfair_shared.h")
 
 METADATA = """\
 Metadata-Version: 2.1
@@ -53,12 +54,12 @@ Tag: {tag}
 OLDEST = (2, 17)
 
 
-def header() -> bytes:
-    return next(it for it in HEADERS if it.is_file()).read_bytes()
+def header(name: str) -> bytes:
+    return next(it / name for it in FOLDERS if (it / name).is_file()).read_bytes()
 
 
 def version() -> str:
-    return re.search(r'#define PFAIR_VERSION "(.*)"', header().decode())[1]  # type: ignore[index]
+    return re.search(r'#define PFAIR_VERSION "(.*)"', header(HEADERS[0]).decode())[1]  # type: ignore[index]
 
 
 def metadata() -> bytes:
@@ -73,9 +74,9 @@ def tag_of(library: bytes) -> str:
 
 
 def package_files() -> "dict[str, bytes]":
-    """The package, with the header."""
+    """The package, with the headers."""
     files = {f"pfair/{it.name}": it.read_bytes() for it in sorted((HERE / "pfair").glob("*.py"))}
-    return {**files, "pfair/py.typed": b"", "pfair/pfair.h": header()}
+    return {**files, "pfair/py.typed": b"", **{f"pfair/{it}": header(it) for it in HEADERS}}
 
 
 def record_of(name: str, data: bytes) -> str:

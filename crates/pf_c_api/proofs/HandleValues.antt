@@ -22,7 +22,7 @@ use Rattle.std.specs.contracts.impls.GlobalAllocator.TheImpl.{ghosts}
 use Rattle.std.proofs.alloc.Calls.{Al}
 use Rattle.std.proofs.GlobalToken.{dealloc_token-Testable}
 use Rattle.std.specs.Box.Ownership.{box_owns}
-use Rattle.pf_c_api.specs.Kept.{kept_at, token}
+use Rattle.pf_c_forms.specs.Kept.{kept_at, token}
 use Rattle.pf_c_api.specs.contracts.held.Held as held
 use Rattle.pf_c_api.specs.contracts.handle.Handle as handle
 

@@ -1,4 +1,3 @@
-pub mod RawBoxValues
 pub mod HandleValues
 pub mod Crossing
 pub mod Stepping

@@ -16,7 +16,7 @@ use Rattle.pf_script.specs.Answers.{ReadsLine}
 use Rattle.pf_script.specs.Told.{FaultTold, LinesTold}
 use Rattle.pf_script_desk.specs.Asked.{commands_of, commands_in}
 use Rattle.pf_c_api.specs.declared.raw_bad_record.RawBadRecord.{RawBadRecord}
-use Rattle.pf_c_api.specs.declared.status.TheConstants.{BAD_RECORD, OK}
+use Rattle.pf_c_forms.specs.declared.status.TheConstants.{BAD_RECORD, OK}
 use Rattle.pf_c_api.specs.Running.{CarriesOut, TellsPlace, place_of, raw_bad}
 use Rattle.pf_c_api.proofs.Stepping.{same_answers}
 

@@ -10,8 +10,8 @@ use Rattle.pf_desk.specs.declared.reply.Fault.TheVariants.{AtHorizon}
 use Rattle.pf_desk.specs.Machine.{State, row_at, step_reply, state_after}
 use Rattle.pf_desk.specs.Desk.{Shown, IsAsBefore, AnswersCaller, AnswersAll, entry_of}
 use Rattle.pf_desk.proofs.Gathering.{answers_append}
-use Rattle.pf_c_api.specs.declared.status.TheConstants.{OK, AT_HORIZON, NO_MEMORY}
-use Rattle.pf_c_api.specs.Replied.{status_of}
+use Rattle.pf_c_forms.specs.declared.status.TheConstants.{OK, AT_HORIZON, NO_MEMORY}
+use Rattle.pf_c_forms.specs.Replied.{status_of}
 use Rattle.pf_c_api.specs.Commanded.{AnswersStep, AnswersSteps, answered}
 
 -- one command

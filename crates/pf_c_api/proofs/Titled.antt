@@ -16,7 +16,7 @@ use Rattle.pf_text.specs.Page.{table_text}
 use Rattle.pf_script.specs.declared.plan.fault.BadRecord.{BadRecord}
 use Rattle.pf_c_api.specs.declared.held.Held.{Held}
 use Rattle.pf_c_api.specs.declared.raw_bad_record.RawBadRecord.{RawBadRecord}
-use Rattle.pf_c_api.specs.declared.status.TheConstants.{NO_MEMORY}
+use Rattle.pf_c_forms.specs.declared.status.TheConstants.{NO_MEMORY}
 use Rattle.pf_c_api.specs.Running.{AreBothBad, OpensTold, Runs, ScriptTold, TellsPlace, place_of, place_told, raw_bad_plan, script_told, told_by, told_plan, told_with}
 
 both_as : (number : ℕ) (origins : List Origin) (bad : Option BadRecord) (fault : Option FaultTold) → IsSameFault number origins bad fault

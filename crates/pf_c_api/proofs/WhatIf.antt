@@ -7,7 +7,7 @@ use Rattle.pf_desk.specs.Desk.{Shown, Ready, IsAsBefore, MakesReady, StandsForHi
 use Rattle.pf_vocabulary.specs.declared.names.titles.Titles.{Titles}
 use Rattle.pf_vocabulary.specs.declared.options.format.Format.{Format}
 use Rattle.pf_c_api.specs.declared.held.Held.{Held}
-use Rattle.pf_c_api.specs.declared.raw_reply.RawReply.{RawReply}
+use Rattle.pf_c_forms.specs.declared.raw_reply.RawReply.{RawReply}
 use Rattle.pf_c_api.specs.Supposed.{IsSeenAfter, Supposes, TellsReady}
 
 -- Use: what was told of a command made ready is told of the desk.

@@ -9,9 +9,9 @@ use Rattle.pf_desk.specs.Machine.{opening_state}
 use Rattle.pf_desk.specs.Desk.{Shown, IsAsBefore, IsDesk, AnswersCaller, AnswersAll}
 use Rattle.pf_vocabulary.specs.Names.Titled.{untitled}
 use Rattle.pf_c_api.specs.declared.held.Held.{Held}
-use Rattle.pf_c_api.specs.declared.raw_reply.RawReply.{RawReply}
-use Rattle.pf_c_api.specs.declared.status.TheConstants.{OK, AT_HORIZON, BAD_SETTINGS, NOT_OPEN, ALREADY_OPEN, NO_MEMORY}
-use Rattle.pf_c_api.specs.Replied.{status_of, told_of}
+use Rattle.pf_c_forms.specs.declared.raw_reply.RawReply.{RawReply}
+use Rattle.pf_c_forms.specs.declared.status.TheConstants.{OK, AT_HORIZON, BAD_SETTINGS, NOT_OPEN, ALREADY_OPEN, NO_MEMORY}
+use Rattle.pf_c_forms.specs.Replied.{status_of, told_of}
 
 -- a distance that checkpoints cannot have
 abbrev pub IsBadDistance : ℕ → Type 0

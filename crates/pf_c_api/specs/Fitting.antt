@@ -12,7 +12,7 @@ use Rattle.pf_desk.specs.Room.{MissesNoneAfter}
 use Rattle.pf_desk.specs.Desk.{Shown}
 use Rattle.pf_c_api.specs.declared.raw_fit.RawFit.{RawFit}
 use Rattle.pf_c_api.specs.declared.raw_miss.TheConstants.{NEVER}
-use Rattle.pf_c_api.specs.declared.status.TheConstants.{OK, NO_MEMORY}
+use Rattle.pf_c_forms.specs.declared.status.TheConstants.{OK, NO_MEMORY}
 
 -- the slot that C is told, or none
 abbrev pub first_told : RawFit → Option ℕ

@@ -1,6 +1,3 @@
-pub mod Kept
-pub mod Asked
-pub mod Replied
 pub mod Told
 pub mod Notices
 pub mod Fitting

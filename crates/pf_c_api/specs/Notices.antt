@@ -10,8 +10,8 @@ use Rattle.pf_scenario.specs.declared.fault.EditFault.{EditFault}
 use Rattle.pf_scenario.specs.declared.fault.EditFault.TheVariants.{EventNotFound, SlotOutOfRange, TaskOutOfRange, EarlyOutOfRange, DelayOutOfRange, CountOutOfRange, BadWeight, JoinTwice, LeaveTwice, TooManyEvents, NumbersSpent}
 use Rattle.pf_scenario.specs.Refusals.{edit_fault_code, edit_fault_name}
 use Rattle.pf_c_api.specs.declared.notice.Notice.{Notice}
-use Rattle.pf_c_api.specs.declared.notice.Notice.TheVariants.{Ok, Weight, Change, Denial, AtHorizon, WouldDeny, BadSettings, NotOpen, AlreadyOpen, NoMemory, UnknownKind, OutOfRange, TooShort, BadRecord}
-use Rattle.pf_c_api.specs.declared.status.TheConstants.{OK, AT_HORIZON, WOULD_DENY, BAD_SETTINGS, NOT_OPEN, ALREADY_OPEN, NO_MEMORY, UNKNOWN_KIND, OUT_OF_RANGE, TOO_SHORT, BAD_RECORD}
+use Rattle.pf_c_api.specs.declared.notice.Notice.TheVariants.{Ok, Weight, Change, Denial, AtHorizon, WouldDeny, BadSettings, NotOpen, AlreadyOpen, NoMemory, UnknownKind, OutOfRange, TooShort, BadRecord, Busy, Pending, Nothing, NotYet, NoPlace}
+use Rattle.pf_c_forms.specs.declared.status.TheConstants.{OK, AT_HORIZON, WOULD_DENY, BAD_SETTINGS, NOT_OPEN, ALREADY_OPEN, NO_MEMORY, UNKNOWN_KIND, OUT_OF_RANGE, TOO_SHORT, BAD_RECORD, BUSY, PENDING, NOTHING, NOT_YET, NO_PLACE}
 use Rattle.pf_c_api.specs.Told.{FillsRoom}
 
 abbrev pub number_of : Notice → ℕ
@@ -29,6 +29,11 @@ number_of UnknownKind = UNKNOWN_KIND
 number_of OutOfRange = OUT_OF_RANGE
 number_of TooShort = TOO_SHORT
 number_of BadRecord = BAD_RECORD
+number_of Busy = BUSY
+number_of Pending = PENDING
+number_of Nothing = NOTHING
+number_of NotYet = NOT_YET
+number_of NoPlace = NO_PLACE
 
 abbrev pub name_of : Notice → List ℕ
 name_of Ok = codes "Ok"
@@ -45,6 +50,11 @@ name_of UnknownKind = codes "UnknownKind"
 name_of OutOfRange = codes "OutOfRange"
 name_of TooShort = codes "TooShort"
 name_of BadRecord = codes "BadRecord"
+name_of Busy = codes "Busy"
+name_of Pending = codes "Pending"
+name_of Nothing = codes "Nothing"
+name_of NotYet = codes "NotYet"
+name_of NoPlace = codes "NoPlace"
 
 abbrev pub weight_sentence : WeightFault → List ℕ
 weight_sentence ZeroCost = codes "the cost is 0"
@@ -85,6 +95,11 @@ sentence_of UnknownKind = codes "the kind is unknown"
 sentence_of OutOfRange = codes "not within the slots stepped"
 sentence_of TooShort = codes "the room is too short"
 sentence_of BadRecord = codes "a record is none of a script's"
+sentence_of Busy = codes "another caller is at the desk"
+sentence_of Pending = codes "a quantum was not taken yet"
+sentence_of Nothing = codes "no quantum is there to take"
+sentence_of NotYet = codes "the slot is not stepped yet"
+sentence_of NoPlace = codes "each place is given"
 
 -- the room has this text of what has the number; or nothing has it
 abbrev pub TellsNotice : (Notice → List ℕ) → ℕ → ℕ → ℕ → List ℕ → List ℕ → Type 0

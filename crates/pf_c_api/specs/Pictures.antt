@@ -8,7 +8,7 @@ use Rattle.pf_vocabulary.specs.declared.options.format.Format.TheVariants.{Svg}
 use Rattle.pf_c_api.specs.declared.held.Held.{Held}
 use Rattle.pf_c_api.specs.declared.raw_look.RawLook.{RawLook}
 use Rattle.pf_c_api.specs.declared.raw_look.TheConstants.{STAIRS, STRIPS}
-use Rattle.pf_c_api.specs.declared.status.TheConstants.{OUT_OF_RANGE}
+use Rattle.pf_c_forms.specs.declared.status.TheConstants.{OUT_OF_RANGE}
 use Rattle.pf_c_api.specs.Texts.{TellsFormat, slots_between}
 
 abbrev pub style_in : ℕ → Option Style

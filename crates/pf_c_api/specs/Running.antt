@@ -15,7 +15,7 @@ use Rattle.pf_text.specs.Page.{table_text}
 use Rattle.pf_script.specs.declared.plan.fault.BadRecord.{BadRecord as BadPlan}
 use Rattle.pf_c_api.specs.declared.held.Held.{Held}
 use Rattle.pf_c_api.specs.declared.raw_bad_record.RawBadRecord.{RawBadRecord}
-use Rattle.pf_c_api.specs.declared.status.TheConstants.{OK, ALREADY_OPEN, NO_MEMORY, BAD_RECORD}
+use Rattle.pf_c_forms.specs.declared.status.TheConstants.{OK, ALREADY_OPEN, NO_MEMORY, BAD_RECORD}
 use Rattle.pf_c_api.specs.Commanded.{IsNewDesk}
 
 abbrev pub raw_bad : BadRecord → RawBadRecord

@@ -6,9 +6,9 @@ use Rattle.pf_desk.specs.Machine.{reply_to, state_after}
 use Rattle.pf_desk.specs.Desk.{Shown, Seen, IsAsBefore, StandsForHistory, entry_of}
 use Rattle.pf_vocabulary.specs.declared.options.format.Format.{Format}
 use Rattle.pf_c_api.specs.declared.held.Held.{Held}
-use Rattle.pf_c_api.specs.declared.raw_reply.RawReply.{RawReply}
-use Rattle.pf_c_api.specs.declared.status.TheConstants.{OK, NO_MEMORY}
-use Rattle.pf_c_api.specs.Replied.{status_of, told_of}
+use Rattle.pf_c_forms.specs.declared.raw_reply.RawReply.{RawReply}
+use Rattle.pf_c_forms.specs.declared.status.TheConstants.{OK, NO_MEMORY}
+use Rattle.pf_c_forms.specs.Replied.{status_of, told_of}
 use Rattle.pf_c_api.specs.Told.{FillsRoom}
 use Rattle.pf_c_api.specs.Texts.{WhereShown, text_seen}
 

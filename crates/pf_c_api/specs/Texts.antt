@@ -8,7 +8,7 @@ use Rattle.pf_vocabulary.specs.declared.options.format.Format.{Format}
 use Rattle.pf_vocabulary.specs.declared.options.format.Format.TheVariants.{Schedule, Tables, Report, Lags, Misses, Denials, Events, Script, Processors, Stats, Chart, Quanta, Windows, Jobs, Load, Trace, C as Code, Full, Html}
 use Rattle.pf_vocabulary.specs.declared.options.slot_range.SlotRange.{SlotRange}
 use Rattle.pf_c_api.specs.declared.held.Held.{Held}
-use Rattle.pf_c_api.specs.declared.status.TheConstants.{OUT_OF_RANGE, UNKNOWN_KIND}
+use Rattle.pf_c_forms.specs.declared.status.TheConstants.{OUT_OF_RANGE, UNKNOWN_KIND}
 use Rattle.pf_c_api.specs.declared.text_kind.TheConstants.{SCHEDULE, LAGS, MISSES, DENIALS, EVENTS, SCRIPT, JSON, PROCESSORS, STATS, CHART, WINDOWS, JOBS, LOAD, QUANTA, TRACE, C, FULL, HTML, TABLES}
 use Rattle.pf_c_api.specs.Refused.{refusals_told}
 use Rattle.pf_c_api.specs.Told.{MayFillRoom}

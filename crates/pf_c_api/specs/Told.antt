@@ -1,12 +1,7 @@
 -- What C gets told of a desk.
-use Rattle.std.specs.Prelude.{ℕ, ◌≡◌, ◌⊎◌, ◌<◌, ◌≤◌, ◌++◌, Option, None, Some, List, [], length, map, drop, pos}
-use Rattle.std.specs.List.{slice_index_or}
-use Rattle.pf_order.specs.declared.pick.Pick.{Pick}
-use Rattle.pf_place.specs.Occupancy.{sitter}
+use Rattle.std.specs.Prelude.{ℕ, ◌≡◌, ◌⊎◌, ◌<◌, ◌≤◌, ◌++◌, Option, None, Some, List, length, map, drop, pos}
 use Rattle.pf_admit.specs.Refusals.{denial_code}
 use Rattle.pf_scenario.specs.System.{System}
-use Rattle.pf_scenario.specs.declared.event.Event.{Event}
-use Rattle.pf_scenario.specs.declared.event.Event.TheVariants.{Join, Leave, Delay, Limit}
 use Rattle.pf_scenario.specs.declared.event.Numbered.{Numbered}
 use Rattle.pf_run.specs.declared.denied.Denied.{Denied}
 use Rattle.pf_run.specs.Computed.{run_of}
@@ -19,22 +14,15 @@ use Rattle.pf_tally.specs.declared.figures.Figures.{Figures}
 use Rattle.pf_tally.specs.Figures.{figures_of}
 use Rattle.pf_desk.specs.Desk.{Shown}
 use Rattle.pf_c_api.specs.declared.held.Held.{Held}
-use Rattle.pf_c_api.specs.declared.raw_pick.RawPick.{RawPick}
 use Rattle.pf_c_api.specs.declared.raw_lag.RawLag.{RawLag}
 use Rattle.pf_c_api.specs.declared.raw_denial.RawDenial.{RawDenial}
 use Rattle.pf_c_api.specs.declared.raw_miss.RawMiss.{RawMiss}
 use Rattle.pf_c_api.specs.declared.raw_miss.TheConstants.{NEVER}
-use Rattle.pf_c_api.specs.declared.raw_event.RawEvent.{RawEvent}
-use Rattle.pf_c_api.specs.declared.raw_event.TheConstants.{LIMIT, LEAVE, JOIN, DELAY}
+use Rattle.pf_c_forms.specs.Events.{raw_event}
 use Rattle.pf_c_api.specs.declared.raw_numbered.RawNumbered.{RawNumbered}
 use Rattle.pf_c_api.specs.declared.raw_settings.RawSettings.{RawSettings}
 use Rattle.pf_c_api.specs.declared.raw_figures.RawFigures.{RawFigures}
-use Rattle.pf_c_api.specs.declared.status.TheConstants.{OK, NOT_OPEN, NO_MEMORY, OUT_OF_RANGE, TOO_SHORT}
-
--- nobody is task 0
-abbrev pub raw_pick : Option Pick → RawPick
-raw_pick None = record { task = 0; sub = 0 }
-raw_pick (Some pick) = record { task = pick.task; sub = pick.sub }
+use Rattle.pf_c_forms.specs.declared.status.TheConstants.{OK, NOT_OPEN, NO_MEMORY, TOO_SHORT}
 
 abbrev pub raw_lag : Lag → RawLag
 raw_lag l = record { task = l.task; cost = l.cost; period = l.period; received = l.received; scaled = l.scaled }
@@ -48,17 +36,6 @@ slot_or_never (Some t) = t
 
 abbrev pub raw_miss : Miss → RawMiss
 raw_miss m = record { task = m.task; sub = m.sub; deadline = m.deadline; ran = slot_or_never m.ran }
-
--- what its kind does not have is 0
-abbrev pub raw_event : Event → RawEvent
-raw_event (Limit slot count) =
-    record { kind = LIMIT; slot = slot; task = 0; cost = 0; period = 0; early = 0; by = 0; count = count }
-raw_event (Leave slot task) =
-    record { kind = LEAVE; slot = slot; task = task; cost = 0; period = 0; early = 0; by = 0; count = 0 }
-raw_event (Join slot task cost period early) =
-    record { kind = JOIN; slot = slot; task = task; cost = cost; period = period; early = early; by = 0; count = 0 }
-raw_event (Delay slot task by) =
-    record { kind = DELAY; slot = slot; task = task; cost = 0; period = 0; early = 0; by = by; count = 0 }
 
 abbrev pub raw_numbered : Numbered → RawNumbered
 raw_numbered n = record { id = n.id; event = raw_event n.event }
@@ -112,19 +89,6 @@ MayFillRoom list status count room filled = (status ≡ NO_MEMORY) ⊎ FillsRoom
 -- where a call writes nothing, the room is as before, and where the room is not too short the count too
 abbrev pub LeavesRest : {Y : Type 0} → ℕ → ℕ → ℕ → List Y → List Y → Type 0
 LeavesRest status was count room filled = (status ≡ OK → ⊥) → (filled ≡ room) × ((status ≡ TOO_SHORT → ⊥) → count ≡ was)
-
--- the room has the picks of these places, on the processors below m, and is else as before
-abbrev pub HasPicks : ℕ → List (Option Pick) → List RawPick → List RawPick → Type 0
-HasPicks m places room filled =
-    ((k : ℕ) → k < m → slice_index_or filled k (raw_pick None) ≡ raw_pick (sitter places k))
-    × ((k : ℕ) → m ≤ k → slice_index_or filled k (raw_pick None) ≡ slice_index_or room k (raw_pick None))
-
--- the room has a pick for each processor; or the slot was not stepped, or the room is too short
-abbrev pub FillsRow : ℕ → Shown → ℕ → List RawPick → List RawPick → Type 0
-FillsRow slot d status room filled =
-    ((status ≡ OK) × (slot < length d.rows) × HasPicks d.state.plan.settings.processors (slice_index_or d.rows slot []) room filled)
-    ⊎ (((status ≡ OUT_OF_RANGE) × (length d.rows ≤ slot))
-    ⊎ ((status ≡ TOO_SHORT) × (slot < length d.rows) × (length filled < d.state.plan.settings.processors)))
 
 abbrev pub lags_now : Shown → List RawLag
 lags_now d = map raw_lag (lags_of d.state.plan (run_of d.state.plan d.state.now))

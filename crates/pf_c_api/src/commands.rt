@@ -1,14 +1,14 @@
 ghost use Rattle.std.specs.Prelude.{◌≡◌, ◌⊎◌, None, IfSome};
 ghost use Rattle.pf_desk.specs.declared.command.Command.TheVariants.{Edit};
 ghost use Rattle.pf_desk.specs.Desk.{IsDesk};
-ghost use Rattle.pf_c_api.specs.declared.status.TheConstants.{OK, AT_HORIZON, NOT_OPEN, UNKNOWN_KIND};
-ghost use Rattle.pf_c_api.specs.Asked.{change_in};
+ghost use Rattle.pf_c_forms.specs.declared.status.TheConstants.{OK, AT_HORIZON, NOT_OPEN, UNKNOWN_KIND};
+ghost use Rattle.pf_c_forms.specs.Asked.{change_in};
 ghost use Rattle.pf_c_api.specs.Commanded.{AnswersEdit, AnswersStep, AnswersSteps, Changes};
 
 use crate::handle::Handle;
-use crate::raw_change::RawChange;
-use crate::raw_reply::{RawReply, status};
-use crate::status::{NO_MEMORY, NOT_OPEN, OK, UNKNOWN_KIND};
+use pf_c_forms::raw_change::RawChange;
+use pf_c_forms::raw_reply::{RawReply, status};
+use pf_c_forms::status::{NO_MEMORY, NOT_OPEN, OK, UNKNOWN_KIND};
 use pf_desk::command::Command;
 use pf_desk::desk::Desk;
 use pf_order::meter::Meter;

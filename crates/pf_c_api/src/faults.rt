@@ -6,8 +6,8 @@ ghost use Rattle.pf_c_api.specs.Told.{LeavesRest, MayFillRoom};
 
 use crate::room::fill_text;
 use crate::script_lines::script_lines;
-use crate::status::NO_MEMORY;
 use csv::ByteRecord;
+use pf_c_forms::status::NO_MEMORY;
 use pf_script::check::report::push_report;
 use pf_script::fault::ScriptFault;
 use pf_script::fields::Fields;

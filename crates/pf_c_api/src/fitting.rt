@@ -5,14 +5,14 @@ ghost use Rattle.pf_tally.specs.Misses.{misses_of};
 ghost use Rattle.pf_tally.specs.Load.{overload_of};
 ghost use Rattle.pf_tally.specs.Fit.{IsFirstAbove};
 ghost use Rattle.pf_laws.specs.Promise.FitLaws.{NoneIsLater};
-ghost use Rattle.pf_c_api.specs.declared.status.TheConstants.{OK};
+ghost use Rattle.pf_c_forms.specs.declared.status.TheConstants.{OK};
 ghost use Rattle.pf_c_api.specs.Fitting.{TellsFit, TellsRoom};
 ghost use Rattle.pf_c_api.specs.Told.{Tells};
 
 use crate::handle::Handle;
 use crate::raw_fit::{RawFit, raw_fit};
 use crate::raw_miss::NEVER;
-use crate::status::{NO_MEMORY, NOT_OPEN, OK};
+use pf_c_forms::status::{NO_MEMORY, NOT_OPEN, OK};
 use pf_desk::desk::Desk;
 use pf_tally::fit::Fit;
 use std::alloc::{AllocError, Global};

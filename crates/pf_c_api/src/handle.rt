@@ -2,7 +2,7 @@ ghost use Rattle.std.specs.Prelude.{◌≡◌, Option, None, Some, MatchOption};
 ghost use Rattle.pf_c_api.specs.declared.held.Held.{Held};
 
 use crate::held::Held;
-use crate::raw_box::RawBox;
+use pf_c_forms::raw_box::RawBox;
 use std::alloc::Global;
 use std::marker::Model;
 use std::mem;
@@ -17,7 +17,7 @@ pub struct Handle {
 }
 
 impl Model for Handle {
-    ghost use Rattle.pf_c_api.specs.Kept.{kept_at};
+    ghost use Rattle.pf_c_forms.specs.Kept.{kept_at};
     ghost use Rattle.pf_c_api.specs.contracts.held.Held.{the_row};
 
     ghost also_owns = { λ h. kept_at the_row h.at h.value };

@@ -2,11 +2,11 @@ ghost use Rattle.std.specs.Prelude.{◌≡◌, None, IfSome};
 ghost use Rattle.pf_c_api.specs.declared.notice.Notice.{Notice};
 ghost use Rattle.pf_c_api.specs.Notices.{change_sentence, denial_sentence, name_of, number_of, sentence_of, weight_sentence};
 
-use crate::status::{
-    ALREADY_OPEN, AT_HORIZON, BAD_RECORD, BAD_SETTINGS, NO_MEMORY, NOT_OPEN, OK, OUT_OF_RANGE,
-    TOO_SHORT, UNKNOWN_KIND, WOULD_DENY,
-};
 use pf_admit::denial::Denial;
+use pf_c_forms::status::{
+    ALREADY_OPEN, AT_HORIZON, BAD_RECORD, BAD_SETTINGS, BUSY, NO_MEMORY, NO_PLACE, NOT_OPEN,
+    NOT_YET, NOTHING, OK, OUT_OF_RANGE, PENDING, TOO_SHORT, UNKNOWN_KIND, WOULD_DENY,
+};
 use pf_scenario::fault::EditFault;
 use pf_weight::fault::WeightFault;
 
@@ -41,6 +41,16 @@ pub enum Notice {
     TooShort,
     /// A record that is none of a script's.
     BadRecord,
+    /// Another caller is at the shared desk.
+    Busy,
+    /// A quantum lies untaken.
+    Pending,
+    /// There is no quantum to take.
+    Nothing,
+    /// The slot is not stepped yet.
+    NotYet,
+    /// Each place of a shared desk is given.
+    NoPlace,
 }
 
 impl Notice {
@@ -79,6 +89,11 @@ impl Notice {
             OUT_OF_RANGE => Some(Notice::OutOfRange),
             TOO_SHORT => Some(Notice::TooShort),
             BAD_RECORD => Some(Notice::BadRecord),
+            BUSY => Some(Notice::Busy),
+            PENDING => Some(Notice::Pending),
+            NOTHING => Some(Notice::Nothing),
+            NOT_YET => Some(Notice::NotYet),
+            NO_PLACE => Some(Notice::NoPlace),
             _ => None,
         }
     }
@@ -102,6 +117,11 @@ impl Notice {
             Notice::OutOfRange => "OutOfRange",
             Notice::TooShort => "TooShort",
             Notice::BadRecord => "BadRecord",
+            Notice::Busy => "Busy",
+            Notice::Pending => "Pending",
+            Notice::Nothing => "Nothing",
+            Notice::NotYet => "NotYet",
+            Notice::NoPlace => "NoPlace",
         }
     }
 
@@ -124,6 +144,11 @@ impl Notice {
             Notice::OutOfRange => "not within the slots stepped",
             Notice::TooShort => "the room is too short",
             Notice::BadRecord => "a record is none of a script's",
+            Notice::Busy => "another caller is at the desk",
+            Notice::Pending => "a quantum was not taken yet",
+            Notice::Nothing => "no quantum is there to take",
+            Notice::NotYet => "the slot is not stepped yet",
+            Notice::NoPlace => "each place is given",
         }
     }
 }

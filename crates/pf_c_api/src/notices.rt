@@ -4,7 +4,7 @@ ghost use Rattle.pf_c_api.specs.Told.{LeavesRest};
 
 use crate::notice::Notice;
 use crate::room::fill_text;
-use crate::status::UNKNOWN_KIND;
+use pf_c_forms::status::UNKNOWN_KIND;
 
 /// Writes the name of a status or of a reason, as the table of refusals has it: "JoinTwice" of 16. `count` is how many bytes
 /// it has, where the room is too short too.

@@ -1,11 +1,11 @@
 ghost use Rattle.std.specs.Prelude.{◌≡◌, ◌⊎◌, None, IfOk, IfErr};
 ghost use Rattle.pf_scenario.specs.System.{near_horizon, wide_horizon};
-ghost use Rattle.pf_c_api.specs.declared.status.TheConstants.{BAD_SETTINGS, NO_MEMORY};
+ghost use Rattle.pf_c_forms.specs.declared.status.TheConstants.{BAD_SETTINGS, NO_MEMORY};
 ghost use Rattle.pf_c_api.specs.Commanded.{IsBadDistance, IsNewDesk, IsOpened, Opens, OpensNone};
 
 use crate::handle::Handle;
 use crate::held::Held;
-use crate::status::{ALREADY_OPEN, BAD_SETTINGS, NO_MEMORY, OK};
+use pf_c_forms::status::{ALREADY_OPEN, BAD_SETTINGS, NO_MEMORY, OK};
 use pf_desk::desk::Desk;
 use pf_desk::fault::OpenFault;
 use pf_scenario::fault::BadSettings;

@@ -4,9 +4,9 @@ ghost use Rattle.pf_c_api.specs.Told.{LeavesRest, TellsHeld};
 
 use crate::handle::Handle;
 use crate::raw_look::RawLook;
-use crate::status::{NOT_OPEN, OUT_OF_RANGE};
 use crate::text_kind::slots_between;
 use crate::texts::fill_format;
+use pf_c_forms::status::{NOT_OPEN, OUT_OF_RANGE};
 use pf_vocabulary::options::format::Format;
 use std::alloc::Global;
 

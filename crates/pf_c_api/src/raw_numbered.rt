@@ -1,5 +1,5 @@
 use crate::for_c::ForC;
-use crate::raw_event::RawEvent;
+use pf_c_forms::raw_event::RawEvent;
 use pf_scenario::event::Numbered;
 
 /// An event with its number, as C gets it.

@@ -1,9 +1,9 @@
-ghost use Rattle.std.specs.Prelude.{◌≡◌, ◌⊎◌, ◌<◌, length, IfOk};
-ghost use Rattle.pf_place.specs.Lent.{lent_row};
+ghost use Rattle.std.specs.Prelude.{◌≡◌, IfOk};
 ghost use Rattle.pf_run.specs.Computed.{run_of};
 ghost use Rattle.pf_tally.specs.Figures.{figures_of};
-ghost use Rattle.pf_c_api.specs.declared.status.TheConstants.{OK, TOO_SHORT};
-ghost use Rattle.pf_c_api.specs.Told.{FillsRoom, FillsRow, HasPicks, LeavesRest, MayFillRoom, Tells, denials_now, events_now, figures_now, lags_now, misses_now, raw_settings};
+ghost use Rattle.pf_c_forms.specs.Picks.{FillsRow};
+ghost use Rattle.pf_c_forms.specs.declared.status.TheConstants.{OK};
+ghost use Rattle.pf_c_api.specs.Told.{FillsRoom, LeavesRest, MayFillRoom, Tells, denials_now, events_now, figures_now, lags_now, misses_now, raw_settings};
 
 use crate::handle::Handle;
 use crate::raw_denial::RawDenial;
@@ -11,12 +11,12 @@ use crate::raw_figures::RawFigures;
 use crate::raw_lag::RawLag;
 use crate::raw_miss::RawMiss;
 use crate::raw_numbered::RawNumbered;
-use crate::raw_pick::RawPick;
 use crate::raw_settings::RawSettings;
 use crate::room::fill;
-use crate::status::{NO_MEMORY, NOT_OPEN, OK, OUT_OF_RANGE, TOO_SHORT};
+use pf_c_forms::raw_pick::RawPick;
+use pf_c_forms::row_room::fill_row;
+use pf_c_forms::status::{NO_MEMORY, NOT_OPEN, OK, OUT_OF_RANGE};
 use pf_desk::desk::Desk;
-use pf_place::row_view::RowView;
 use pf_scenario::event::Numbered;
 use pf_tally::figures::Figures;
 use std::alloc::{AllocError, Global};
@@ -81,7 +81,7 @@ pub extern "C" fn pfair_row(
     room: &mut [RawPick],
 ) -> u32
     ensures same { desk.new.value ≡ desk.old.value }
-    ensures row { Tells desk.old.value result (λ d. FillsRow slot d result room.old room.new) }
+    ensures row { Tells desk.old.value result (λ d. FillsRow slot d.state.plan.settings.processors d.rows result room.old room.new) }
     ensures rest { (result ≡ OK → ⊥) → room.new ≡ room.old }
 {
     match desk.take(alloc) {
@@ -229,29 +229,13 @@ pub extern "C" fn pfair_events(
 
 /// Writes the row of a slot.
 fn fill_row_at(desk: &Desk, slot: u64, room: &mut [RawPick]) -> u32
-    ensures row { FillsRow slot desk.now result room.old room.new }
+    ensures row { FillsRow slot desk.now.state.plan.settings.processors desk.now.rows result room.old room.new }
     ensures rest { (result ≡ OK → ⊥) → room.new ≡ room.old }
 {
     match desk.schedule().get(slot) {
         None => OUT_OF_RANGE,
         Some(row) => fill_row(row, desk.scenario().settings().processors(), room),
     }
-}
-
-/// Writes the picks of a row, where there is room for one of each processor.
-fn fill_row(row: RowView<'_>, processors: u32, room: &mut [RawPick]) -> u32
-    ensures long { length room.new ≡ length room.old }
-    ensures status { (result ≡ OK) ⊎ ((result ≡ TOO_SHORT) × (length room.new < processors)) }
-    ensures picks { result ≡ OK → HasPicks processors (lent_row row.entry) room.old room.new }
-    ensures rest { (result ≡ OK → ⊥) → room.new ≡ room.old }
-{
-    if room.len() < processors as usize {
-        return TOO_SHORT;
-    }
-    for k in 0..processors {
-        room[k as usize] = RawPick::of(row.get(k));
-    }
-    OK
 }
 
 /// Writes the lags.

@@ -1,13 +1,13 @@
 ghost use Rattle.std.specs.Prelude.{◌≡◌, All, IfOk, drop, length};
 ghost use Rattle.std.specs.List.{flat_map};
 ghost use Rattle.pf_report.specs.Replies.{HasFewPlaces, reply_line};
-ghost use Rattle.pf_c_api.specs.declared.status.TheConstants.{OK};
+ghost use Rattle.pf_c_forms.specs.declared.status.TheConstants.{OK};
 ghost use Rattle.pf_c_api.specs.Entries.{replies_from};
 ghost use Rattle.pf_c_api.specs.Told.{LeavesRest, MayFillRoom, Tells};
 
 use crate::handle::Handle;
 use crate::room::fill_text;
-use crate::status::{NO_MEMORY, NOT_OPEN, OK};
+use pf_c_forms::status::{NO_MEMORY, NOT_OPEN, OK};
 use pf_desk::desk::Desk;
 use pf_desk::history::History;
 use pf_report::reply::push_reply;

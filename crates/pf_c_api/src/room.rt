@@ -2,7 +2,7 @@ ghost use Rattle.std.specs.Prelude.{◌≡◌, map};
 ghost use Rattle.pf_c_api.specs.Told.{FillsRoom};
 
 use crate::for_c::ForC;
-use crate::status::{OK, TOO_SHORT};
+use pf_c_forms::status::{OK, TOO_SHORT};
 
 /// Writes all of a list into a caller's room, each value in its form for C, or nothing where the room is too short. `count`
 /// is how many there are.

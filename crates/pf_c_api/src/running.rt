@@ -5,15 +5,15 @@ ghost use Rattle.pf_script_desk.specs.Asked.{commands_of};
 ghost use Rattle.pf_script.specs.declared.version.Version.TheVariants.{Second};
 ghost use Rattle.pf_script.specs.Opened.{IsOpening};
 ghost use Rattle.pf_script.specs.Told.{readings_after, rest_in, told};
-ghost use Rattle.pf_c_api.specs.declared.status.TheConstants.{NOT_OPEN};
+ghost use Rattle.pf_c_forms.specs.declared.status.TheConstants.{NOT_OPEN};
 ghost use Rattle.pf_c_api.specs.Commanded.{Changes};
 ghost use Rattle.pf_c_api.specs.Running.{AreBothBad, CarriesOut, OpensLines, OpensScript, OpensTold, RunsTold, place_told, script_told, told_plan, told_with};
 
 use crate::handle::Handle;
 use crate::opening::boxed_desk;
 use crate::raw_bad_record::RawBadRecord;
-use crate::status::{ALREADY_OPEN, BAD_RECORD, NO_MEMORY, NOT_OPEN, OK};
 use csv::ByteRecord;
+use pf_c_forms::status::{ALREADY_OPEN, BAD_RECORD, NO_MEMORY, NOT_OPEN, OK};
 use pf_desk::command::Command;
 use pf_desk::desk::Desk;
 use pf_order::meter::Meter;

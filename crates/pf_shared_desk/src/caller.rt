@@ -1,4 +1,4 @@
-ghost use Rattle.std.specs.Prelude.{◌≡◌, ◌++◌, ◌∷◌, [], length, IfOk, IfErr, OnErr};
+ghost use Rattle.std.specs.Prelude.{◌≡◌, ◌⊎◌, ◌++◌, ◌∷◌, [], length, IfOk, IfErr, OnErr};
 ghost use Rattle.std.specs.Arc.{arc_value};
 ghost use mathlib.Core.List.{IsPrefix};
 ghost use Rattle.pf_board.specs.Passes.{IsFront};
@@ -7,6 +7,7 @@ ghost use Rattle.pf_desk.specs.declared.command.Command.TheVariants.{Edit, Step}
 ghost use Rattle.pf_desk_board.specs.Entered.{Enters, found_empty};
 ghost use Rattle.pf_desk_board.specs.Histories.{IsHistory, quanta_of};
 ghost use Rattle.pf_shared_desk.specs.Calling.{Refuses, TakesIn};
+ghost use Rattle.pf_shared_desk.specs.declared.unanswered.Unanswered.TheVariants.{Busy, NoMemory};
 
 use crate::common::Common;
 use crate::slot_take::SlotTake;
@@ -94,6 +95,7 @@ impl Caller {
     pub fn edit(&mut self, change: Change, strict: bool) -> Result<Done, Unanswered>
         ensures entered { IfOk result (λ d. Enters self.old.board.terms (Edit change strict) self.old.pass d self.new.pass) }
         ensures refused { OnErr result (self.new.pass ≡ self.old.pass) }
+        ensures why { IfErr result (λ u. (u ≡ Busy) ⊎ (u ≡ NoMemory)) }
         ensures same { self.new.board ≡ self.old.board }
     {
         self.common.edit(&mut self.pass, change, strict)

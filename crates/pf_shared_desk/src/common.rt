@@ -1,4 +1,4 @@
-ghost use Rattle.std.specs.Prelude.{◌≡◌, ◌++◌, ◌∷◌, ◌≤◌, [], length, IfOk, IfErr, IfSome, OnErr};
+ghost use Rattle.std.specs.Prelude.{◌≡◌, ◌⊎◌, ◌++◌, ◌∷◌, ◌≤◌, [], length, IfOk, IfErr, IfSome, OnErr};
 ghost use Rattle.std.specs.Arc.{arc_value};
 ghost use mathlib.Core.List.{IsPrefix};
 ghost use Rattle.pf_board.specs.Passes.{IsFront, new_passes};
@@ -11,6 +11,7 @@ ghost use Rattle.pf_desk_board.specs.Histories.{IsHistory, quanta_of};
 ghost use Rattle.pf_shared_desk.specs.Calling.{Refuses, TakesIn};
 ghost use Rattle.pf_shared_desk.specs.Kept.{IsCore};
 ghost use Rattle.pf_shared_desk.specs.Reading.{IsShown};
+ghost use Rattle.pf_shared_desk.specs.declared.unanswered.Unanswered.TheVariants.{Busy, NoMemory};
 
 use crate::desk_core::DeskCore;
 use crate::shown::Shown;
@@ -154,6 +155,7 @@ impl Common {
         requires { pass.old.board ≡ self.now.id }
         ensures entered { IfOk result (λ d. Enters self.now.terms (Edit change strict) pass.old d pass.new) }
         ensures refused { OnErr result (pass.new ≡ pass.old) }
+        ensures why { IfErr result (λ u. (u ≡ Busy) ⊎ (u ≡ NoMemory)) }
     {
         let Some(mut core) = self.room.enter() else {
             return Err(Unanswered::Busy);

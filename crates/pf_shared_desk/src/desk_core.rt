@@ -6,6 +6,7 @@ ghost use Rattle.pf_desk_board.specs.Histories.{IsHistory, is_step_command, quan
 ghost use Rattle.pf_desk_board.specs.Issuing.{AwaitsReply};
 ghost use Rattle.pf_shared_desk.specs.Calling.{Refuses};
 ghost use Rattle.pf_shared_desk.specs.Kept.{IsCore, IsKept};
+ghost use Rattle.pf_shared_desk.specs.declared.unanswered.Unanswered.TheVariants.{NoMemory};
 
 use crate::shown::Shown;
 use crate::unanswered::Unanswered;
@@ -111,6 +112,7 @@ impl DeskCore {
         ensures core { IsCore board.now self.new }
         ensures entered { IfOk result (λ d. Enters board.now.terms (Edit change strict) pass.old d pass.new) }
         ensures same_pass { OnErr result (pass.new ≡ pass.old) }
+        ensures memory { IfErr result (λ u. u ≡ NoMemory) }
         ensures front { IsFront IsHistory pass.new }
     {
         match self.enter(board, shelf, pass, Command::Edit { change, strict }) {

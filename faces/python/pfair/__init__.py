@@ -14,14 +14,16 @@ processor; each period divides the base. Only the standard library is needed.
 """
 
 from pfair._desk import Desk
-from pfair._errors import BadRecord, BadSettings, ClosedDesk, OutOfRange, PfairError, Refused
+from pfair._errors import BadRecord, BadSettings, Busy, ClosedDesk, NoPlace, NotYet, OutOfRange, Pending, PfairError, Refused
 from pfair._errors import name, record_faults, script_faults, sentence
 from pfair._events import Delay, Event, Join, Leave, Limit
 from pfair._library import VERSION as __version__
+from pfair._shared import Caller, Reader, SharedDesk, Snapshot
 from pfair._told import Denial, Figures, Fit, Lag, Miss, Pick, Quantum, Settings
 
 __all__ = [
-    "BadRecord", "BadSettings", "ClosedDesk", "Delay", "Denial", "Desk", "Event", "Figures", "Fit", "Join", "Lag", "Leave",
-    "Limit", "Miss", "OutOfRange", "PfairError", "Pick", "Quantum", "Refused", "Settings", "__version__", "name",
-    "record_faults", "script_faults", "sentence",
+    "BadRecord", "BadSettings", "Busy", "Caller", "ClosedDesk", "Delay", "Denial", "Desk", "Event", "Figures", "Fit",
+    "Join", "Lag", "Leave", "Limit", "Miss", "NoPlace", "NotYet", "OutOfRange", "Pending", "PfairError", "Pick",
+    "Quantum", "Reader", "Refused", "Settings", "SharedDesk", "Snapshot", "__version__", "name", "record_faults",
+    "script_faults", "sentence",
 ]

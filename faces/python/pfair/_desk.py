@@ -342,7 +342,7 @@ class Desk:
         pfair; "json" is the report; "full" has settings, events, figures and refused commands too, each of these by its
         number among those that the desk has answered, from 1 on; "html" is a page to look around in, of at most 65,536
         slots, else OutOfRange is raised; "chart" is the schedule in characters; "trace" has the run as trace events, for
-        Perfetto and chrome://tracing; "c" the schedule as a C array.
+        Perfetto and chrome://tracing; "c" the schedule as a C header.
         """
         text: bytes = self._all("text", ctypes.c_char, text_number(kind))
         return text.decode("ascii")

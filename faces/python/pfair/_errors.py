@@ -16,11 +16,31 @@ class BadSettings(PfairError):
 
 
 class ClosedDesk(PfairError):
-    """The desk was closed."""
+    """The desk was closed, or what one has of a shared desk."""
 
 
 class OutOfRange(PfairError):
     """A slot that was not stepped, or a range of slots or a look that cannot be shown."""
+
+
+class Busy(PfairError):
+    """Another caller is at the shared desk, or there is nothing to read just now: nothing was done; one may try again."""
+
+
+class Pending(PfairError):
+    """A quantum was not taken yet, so no step was taken: `processor` is the lowest on which one lies."""
+
+    def __init__(self, processor: int) -> None:
+        self.processor = processor
+        super().__init__(f"{sentence(NUMBERS['PENDING'])}: processor {processor}")
+
+
+class NotYet(PfairError):
+    """The slot is not stepped yet: nothing was taken."""
+
+
+class NoPlace(PfairError):
+    """Each caller, or each reader, of a shared desk was opened."""
 
 
 class Refused(PfairError):
@@ -95,6 +115,9 @@ _RAISED = {
     NUMBERS["NOT_OPEN"]: ClosedDesk,
     NUMBERS["OUT_OF_RANGE"]: OutOfRange,
     NUMBERS["UNKNOWN_KIND"]: ValueError,
+    NUMBERS["BUSY"]: Busy,
+    NUMBERS["NOT_YET"]: NotYet,
+    NUMBERS["NO_PLACE"]: NoPlace,
 }
 
 

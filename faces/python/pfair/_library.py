@@ -1,6 +1,6 @@
-"""The library, and the numbers, structs and calls of its header.
+"""The library, and the numbers, structs and calls of its headers.
 
-Both lie beside this file in a wheel. In the repository the header is in include/, and PFAIR_LIBRARY names the library.
+All lie beside this file in a wheel. In the repository the headers are in include/, and PFAIR_LIBRARY names the library.
 """
 
 import ctypes
@@ -12,15 +12,15 @@ from typing import Any, Callable, Dict, Tuple
 HERE = Path(__file__).resolve().parent
 
 
-def _header() -> str:
-    beside = HERE / "pfair.h"
-    path = beside if beside.is_file() else HERE.parents[2] / "include" / "pfair.h"
+def _header(name: str) -> str:
+    beside = HERE / name
+    path = beside if beside.is_file() else HERE.parents[2] / "include" / name
     return path.read_text(encoding="utf-8")
 
 
-_TEXT = _header()
+_TEXT = _header("pfair.h") + _header("pfair_shared.h")
 
-# Each number of the header's enumerations, by its name without PFAIR_.
+# Each number of the headers' enumerations, by its name without PFAIR_.
 NUMBERS: Dict[str, int] = {
     name: int(number) for name, number in re.findall(r"^\s+PFAIR_(\w+) = (\d+)", _TEXT, re.MULTILINE)
 }
@@ -32,7 +32,7 @@ VERSION: str = re.search(r'^#define PFAIR_VERSION "(.*)"', _TEXT, re.MULTILINE)[
 U32, U64, SIZE = ctypes.c_uint32, ctypes.c_uint64, ctypes.c_size_t
 
 
-# The header without its comments.
+# The headers without their comments.
 _CODE = re.sub(r"/\*.*?\*/", "", _TEXT, flags=re.DOTALL)
 
 _TYPES: Dict[str, Any] = {
@@ -52,7 +52,7 @@ def _declared(text: str) -> Tuple[str, Any]:
 
 
 def _structs() -> None:
-    """Makes a class of each struct of the header."""
+    """Makes a class of each struct of the headers."""
     for name, fields in re.findall(r"typedef struct (\w+) \{(.*?)\}", _CODE, re.DOTALL):
         declared = [_declared(it) for it in fields.split(";") if it.strip()]
         _TYPES[name] = type(name, (ctypes.Structure,), {"_fields_": declared})
@@ -62,12 +62,12 @@ _structs()
 
 
 def struct(name: str) -> Any:
-    """The class of a struct, by its name in the header without pfair_."""
+    """The class of a struct, by its name in the headers without pfair_."""
     return _TYPES[f"pfair_{name}"]
 
 
 def _load() -> Dict[str, Callable[..., int]]:
-    """Each call of the header, by its name without pfair_."""
+    """Each call of the headers, by its name without pfair_."""
     path = os.environ.get("PFAIR_LIBRARY") or str(HERE / "libpfair.so")
     library = ctypes.CDLL(path)
     abi = library.pfair_abi() if hasattr(library, "pfair_abi") else None

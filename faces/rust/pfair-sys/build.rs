@@ -1,7 +1,7 @@
-//! Links libpfair.a, and takes the numbers, structs and calls of its header.
+//! Links libpfair.a, and takes the numbers, structs and calls of its headers.
 //!
-//! The library is looked for in PFAIR_LIB_DIR, else in lib/<target>/ beside this file; the header in PFAIR_INCLUDE_DIR, else
-//! beside this file, else where the repository keeps it.
+//! The library is looked for in PFAIR_LIB_DIR, else in lib/<target>/ beside this file; the headers in PFAIR_INCLUDE_DIR,
+//! else beside this file, else where the repository keeps them.
 use std::path::{Path, PathBuf};
 use std::{env, fs};
 
@@ -21,7 +21,7 @@ fn constants(header: &str) -> String {
     text
 }
 
-/// The header without its comments, and without the functions that C makes itself.
+/// A header without its comments, and without the functions that C makes itself.
 fn code(header: &str) -> String {
     let mut parts = header.split("/*");
     let mut text = parts.next().unwrap_or_default().to_string();
@@ -51,7 +51,7 @@ fn declared(text: &str) -> (&str, String) {
     }
 }
 
-/// The structs of the header. Those without a pointer are values.
+/// The structs of a header. Those without a pointer are values.
 fn structs(code: &str) -> String {
     let mut text = String::new();
     for part in code.split("typedef struct ").skip(1) {
@@ -74,7 +74,7 @@ fn argument(text: &str) -> String {
     format!("{name}: {kind}")
 }
 
-/// The calls of the header.
+/// The calls of a header.
 fn calls(code: &str) -> String {
     let mut text = String::from("unsafe extern \"C\" {\n");
     for part in code.split(';').filter(|it| it.contains(" pfair_") && it.trim_end().ends_with(')')) {
@@ -88,11 +88,14 @@ fn calls(code: &str) -> String {
     text + "}\n"
 }
 
-fn header(here: &Path) -> PathBuf {
+/// The text of a header.
+fn header(here: &Path, name: &str) -> String {
     let named = env::var_os("PFAIR_INCLUDE_DIR").map(PathBuf::from);
     let folders = [named, Some(here.to_path_buf()), Some(here.join("../../../include"))];
-    let found = folders.into_iter().flatten().map(|it| it.join("pfair.h")).find(|it| it.is_file());
-    found.expect("no pfair.h: name its folder by PFAIR_INCLUDE_DIR")
+    let found = folders.into_iter().flatten().map(|it| it.join(name)).find(|it| it.is_file());
+    let path = found.unwrap_or_else(|| panic!("no {name}: name its folder by PFAIR_INCLUDE_DIR"));
+    println!("cargo:rerun-if-changed={}", path.display());
+    fs::read_to_string(&path).expect("the header can be read")
 }
 
 fn main() {
@@ -105,11 +108,10 @@ fn main() {
     println!("cargo:rustc-link-search=native={}", library.display());
     println!("cargo:rustc-link-lib=static=pfair");
 
-    let header = header(&here);
-    println!("cargo:rerun-if-changed={}", header.display());
-    let text = fs::read_to_string(&header).expect("the header can be read");
+    let headers = ["pfair.h", "pfair_shared.h"].map(|it| header(&here, it));
     let out = PathBuf::from(env::var_os("OUT_DIR").expect("cargo sets it"));
-    fs::write(out.join("numbers.rs"), constants(&text)).expect("the folder can be written");
-    let code = code(&text);
-    fs::write(out.join("raw.rs"), structs(&code) + &calls(&code)).expect("the folder can be written");
+    fs::write(out.join("numbers.rs"), constants(&headers.concat())).expect("the folder can be written");
+    let codes = headers.map(|it| code(&it));
+    let raw: String = codes.iter().map(|it| structs(it) + &calls(it)).collect();
+    fs::write(out.join("raw.rs"), raw).expect("the folder can be written");
 }

@@ -23,7 +23,7 @@ pub struct Desk {
 }
 
 /// What is told of a call that has no reply.
-const NOTHING: pfair_reply = pfair_reply { event: 0, reason: 0 };
+pub(crate) const NOTHING: pfair_reply = pfair_reply { event: 0, reason: 0 };
 
 impl Desk {
     /// Opens a desk with an empty plan and no slot stepped.
@@ -366,10 +366,15 @@ impl Desk {
     }
 }
 
-/// A handle of the library, which goes with the header that this crate was compiled with.
+/// A handle of the library.
 fn closed() -> Handle {
-    assert_eq!(sys::abi(), sys::PFAIR_ABI, "libpfair.a does not go with pfair.h: its PFAIR_ABI is the first of these");
+    check_library();
     Handle::closed()
+}
+
+/// That the library goes with the header that this crate was compiled with.
+pub(crate) fn check_library() {
+    assert_eq!(sys::abi(), sys::PFAIR_ABI, "libpfair.a does not go with pfair.h: its PFAIR_ABI is the first of these");
 }
 
 /// All that a call fills, in a room that is made as long as the call asks for.

@@ -17,6 +17,17 @@ pub enum Error {
     Refused(Refusal),
     /// A record is none of a script's.
     BadRecord(BadRecord),
+    /// Another caller is at the shared desk, or there is nothing to read just now: nothing was done, and one may try again.
+    Busy,
+    /// A quantum was not taken yet, so no step was taken: this is the lowest processor on which one lies.
+    Pending {
+        /// The processor.
+        processor: u32,
+    },
+    /// The slot is not stepped yet: nothing was taken.
+    NotYet,
+    /// Each caller, or each reader, of the shared desk was opened.
+    NoPlace,
 }
 
 /// A record that is none of a script's: where it is, counted from 1, and why.
@@ -182,6 +193,9 @@ pub(crate) fn answer(status: u32, reply: pfair_reply) -> Result<(), Error> {
         sys::PFAIR_BAD_SETTINGS => Err(Error::BadSettings),
         sys::PFAIR_NO_MEMORY => Err(Error::NoMemory),
         sys::PFAIR_OUT_OF_RANGE => Err(Error::OutOfRange),
+        sys::PFAIR_BUSY => Err(Error::Busy),
+        sys::PFAIR_NOT_YET => Err(Error::NotYet),
+        sys::PFAIR_NO_PLACE => Err(Error::NoPlace),
         refusal => Err(Error::Refused(Refusal::of(refusal, reply))),
     }
 }
@@ -208,6 +222,10 @@ impl fmt::Display for Error {
             Error::BadSettings => sys::PFAIR_BAD_SETTINGS,
             Error::NoMemory => sys::PFAIR_NO_MEMORY,
             Error::OutOfRange => sys::PFAIR_OUT_OF_RANGE,
+            Error::Busy => sys::PFAIR_BUSY,
+            Error::Pending { .. } => sys::PFAIR_PENDING,
+            Error::NotYet => sys::PFAIR_NOT_YET,
+            Error::NoPlace => sys::PFAIR_NO_PLACE,
             Error::Refused(refusal) => return write!(f, "refused: {refusal}"),
             Error::BadRecord(bad) => return write!(f, "{bad}"),
         };

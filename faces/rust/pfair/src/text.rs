@@ -45,7 +45,7 @@ pub enum Text {
     Quanta,
     /// JSON: the run as trace events, for Perfetto and chrome://tracing.
     Trace,
-    /// The schedule as a C array.
+    /// The schedule as a C header.
     C,
     /// The report with settings, events, figures and refused commands, as a line of JSON. A refused command is told by its
     /// number among those that the desk has answered, from 1 on.

@@ -1,5 +1,5 @@
-//! The cases of the program, crates/pfair/cases, of which a desk gives the same bytes: `check`, `run`, and
-//! `run -f FORMAT`, of a picture with its look and its slots.
+//! The cases of the program, crates/pfair/cases, of which a desk gives the same bytes: `run`, and `run -f FORMAT`, of a picture with
+//! its look and its slots; and those of `check`, of which it finds the same faults.
 use pfair::{Desk, Error, Look, Style, Text};
 use std::collections::HashMap;
 use std::fs;
@@ -61,11 +61,43 @@ fn written(words: &[&str], desk: &Desk) -> Option<Result<String, Error>> {
     }
 }
 
-/// The lines of a check behind its faults tell how many there are.
-fn without_totals(out: &str) -> Vec<&str> {
-    let mut lines: Vec<&str> = out.lines().collect();
-    lines.pop();
-    lines
+/// What lacks settings is told once by a check, and of each record and the end by the library.
+const UNSET: &str = "settings are expected";
+
+/// The line and the text of each message of a check, without those that lack settings.
+fn messages(out: &str) -> Vec<(&str, &str)> {
+    let places = out.lines().filter_map(|it| it.strip_prefix("-:")?.split_once(": "));
+    let told = places.map(|(place, text)| (place.split(':').next().expect("a line"), text));
+    told.filter(|(_, text)| !text.starts_with(UNSET)).collect()
+}
+
+/// The same of the library's lines.
+fn faults(lines: &[String]) -> Vec<(&str, &str)> {
+    let told =
+        lines.iter().map(|it| it.strip_prefix("line ").and_then(|it| it.split_once(": ")).expect("a line of a fault"));
+    told.map(|(place, text)| (place.split(',').next().expect("a line"), text))
+        .filter(|(_, text)| *text != UNSET)
+        .collect()
+}
+
+/// Whether a message and a text of the library tell the same fault: of the number of fields, or of a text of the script.
+fn is_same(message: &str, text: &str) -> bool {
+    if message.contains(" is missing: ") || message.starts_with("a field too much: ") {
+        return text.ends_with(" fields are expected") || text.starts_with("\"\" is no ");
+    }
+    let end = if text.starts_with('"') { text[1..].find('"').map(|it| it + 2) } else { text.find(' ') };
+    message.contains(&text[..end.expect("what is shown ends")])
+}
+
+/// That the library finds the faults of a script which a check finds; of a file that is no script, some fault.
+fn compare_faults(file: &Path, script: &str, out: &str) {
+    let lines = pfair::script_faults(script).unwrap();
+    assert_eq!(lines.is_empty(), out.ends_with(" 0 faults\n"), "{file:?}");
+    if !out.starts_with("-:1:1: it ") {
+        let (told, found) = (messages(out), faults(&lines));
+        let are_same = told.iter().zip(&found).all(|(told, found)| told.0 == found.0 && is_same(told.1, found.1));
+        assert!(are_same && told.len() == found.len(), "{file:?}: {found:?}");
+    }
 }
 
 /// The name of the part that a line begins, and whether it is escaped.
@@ -112,7 +144,7 @@ fn compared(file: &Path) -> bool {
     let words: Vec<&str> = parts["words"].split_whitespace().collect();
     let (Some(script), Some(out)) = (parts.get("csv"), parts.get("out")) else { return false };
     if words == ["check"] {
-        assert_eq!(pfair::script_faults(script).unwrap(), without_totals(out), "{file:?}");
+        compare_faults(file, script, out);
         return true;
     }
     let ["run", words @ ..] = words.as_slice() else { return false };
@@ -137,4 +169,10 @@ fn desks_write_what_the_program_does() {
     let third = done.iter().filter(|it| it.file_name().unwrap().to_str().unwrap().starts_with("v3-"));
     assert!(third.count() > 40, "{done:?}");
     assert!(done.len() > 100, "{done:?}");
+}
+
+#[test]
+fn bad_records_have_lines() {
+    let faults = pfair::script_faults("settings,1,2,2,64\nstep,x\n").unwrap();
+    assert_eq!(faults, ["line 2, record 2, field 2: \"x\" is no number of 1 to 15 digits"]);
 }

@@ -1,5 +1,5 @@
 use Rattle.std.proofs.Common.{◌≡◌, arith, rules}
-use Rattle.pf_c_api.specs.declared.status.TheConstants.{OK}
+use Rattle.pf_c_forms.specs.declared.status.TheConstants.{OK}
 use Rattle.pf_c_api.proofs.Stepping.{step_taken, steps_end}
 use Rattle.pf_c_api.proofs.commands.advance.Goals as goal
 

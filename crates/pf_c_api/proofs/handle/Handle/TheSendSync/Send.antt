@@ -11,7 +11,7 @@ use denote.Struct.Struct.{exits_of}
 use denote.Struct.Owning.{shape, fields, to}
 use denote.Param.Send.{IsSend, AllSend, Quiet, part_keyless, owning_send, struct_send, sendable}
 use Rattle.std.proofs.Crossing.{frees}
-use Rattle.pf_c_api.specs.Kept.{kept_at}
+use Rattle.pf_c_forms.specs.Kept.{kept_at}
 use Rattle.pf_c_api.specs.contracts.held.Held as held
 use Rattle.pf_c_api.proofs.Crossing.{held_send}
 use Rattle.pf_c_api.specs.contracts.handle.Handle.{the_row, the_type}

@@ -20,9 +20,9 @@ use Rattle.std.proofs.alloc.Calls.{Goes-blank}
 use Rattle.std.proofs.raw_atomic.Walks.{proved_at, leaves}
 use Rattle.std.specs.contracts.impls.GlobalAllocator.TheImpl.{ghosts}
 use Rattle.std.proofs.alloc.Global.TheLaws as heap_laws
-use Rattle.pf_c_api.specs.contracts.raw_box.RawBox as raw_box
-use Rattle.pf_c_api.specs.Kept.{kept_at}
-use Rattle.pf_c_api.proofs.RawBoxValues.{both, raw_box_good, raw_box_out}
+use Rattle.pf_c_forms.specs.contracts.raw_box.RawBox as raw_box
+use Rattle.pf_c_forms.specs.Kept.{kept_at}
+use Rattle.pf_c_forms.proofs.RawBoxValues.{both, raw_box_good, raw_box_out}
 use Rattle.pf_c_api.proofs.HandleValues.{Z, R, of_one, handle_in}
 use Rattle.pf_c_api.specs.contracts.handle.Handle.holding.{ended, clauses}
 use Rattle.pf_c_api.specs.contracts.handle.Handle.holding.Key.{name as #self}

@@ -27,8 +27,8 @@ use Rattle.std.proofs.raw_atomic.Walks.{proved_at, leaves}
 use Rattle.std.specs.Box.Ownership.{box_owns}
 use Rattle.std.specs.contracts.impls.GlobalAllocator.TheImpl.{ghosts}
 use Rattle.std.proofs.alloc.Global.TheLaws as heap_laws
-use Rattle.pf_c_api.specs.contracts.raw_box.RawBox as raw_box
-use Rattle.pf_c_api.proofs.RawBoxValues.{both, raw_box_good, raw_box_in}
+use Rattle.pf_c_forms.specs.contracts.raw_box.RawBox as raw_box
+use Rattle.pf_c_forms.proofs.RawBoxValues.{both, raw_box_good, raw_box_in}
 use Rattle.pf_c_api.proofs.HandleValues.{Z, R, HandleRow, al, of_one, handle_out, either}
 use Rattle.pf_c_api.specs.contracts.handle.Handle.into_raw_box.{ended, clauses}
 use Rattle.pf_c_api.specs.contracts.handle.Handle.into_raw_box.Key.{name as #self}
