@@ -1,13 +1,23 @@
--- A schedule as a C array.
-use Rattle.std.specs.Prelude.{ℕ, ◌==◌, max, if◌then◌else◌, Option, List, [], ◌∷◌, ◌++◌, codes}
+-- A schedule as a table in C.
+use Rattle.std.specs.Prelude.{ℕ, ◌-◌, ◌==◌, max, if◌then◌else◌, Option, List, [], ◌∷◌, ◌++◌, codes, drop, take}
 use Rattle.std.specs.Fmt.{decimal}
 use Rattle.std.specs.List.{flat_map, range_with_len}
 use Rattle.std.specs.Option.{option_map_or}
 use Rattle.pf_order.specs.declared.pick.Pick.{Pick}
 use Rattle.pf_place.specs.Occupancy.{sitter}
-use Rattle.pf_report.specs.Desk.{Seen}
+use Rattle.pf_run.specs.Inside.{Joined}
+use Rattle.pf_desk.specs.Desk.{Seen}
+use Rattle.pf_vocabulary.specs.Options.Ranges.{end_of, first_of}
 use Rattle.pf_vocabulary.specs.declared.names.named.Named.{Named}
 use Rattle.pf_vocabulary.specs.declared.names.titles.Titles.{Titles}
+use Rattle.pf_vocabulary.specs.declared.options.slot_range.SlotRange.{SlotRange}
+use Rattle.pf_code.specs.Header.{comments_text, constants_text}
+use Rattle.pf_code.specs.Outline.{outline_of}
+use Rattle.pf_code.specs.Parts.{joined}
+use Rattle.pf_code.specs.Repetition.{admitted_in}
+use Rattle.pf_code.specs.Symbol.{capitals}
+use Rattle.pf_code.specs.Tasks.{tasks_text, type_line}
+use Rattle.pf_code.specs.declared.outline.Outline.{Outline}
 
 -- what stands for processor p: the task that sits on it, 0 for nobody, after a brace or a comma
 abbrev pub seat_with : ℕ → Option Pick → List ℕ
@@ -22,36 +32,33 @@ abbrev pub rows_or_nobody : List (List (Option Pick)) → List (List (Option Pic
 rows_or_nobody [] = [] ∷ []
 rows_or_nobody (row ∷ rows) = row ∷ rows
 
--- of m processors and n slots
-abbrev pub title_text : ℕ → ℕ → ℕ → List ℕ
-title_text m n base =
-    codes "/* PD2 schedule: " ++ decimal m ++ codes " processors, " ++ decimal n ++ codes " slots, base " ++ decimal base
-    ++ codes ". One row a slot, one task a processor; 0 is nobody. */\n"
+-- the rows of the slots from `from` on and below `to`
+abbrev pub rows_between : Seen → ℕ → ℕ → List (List (Option Pick))
+rows_between seen from to = drop from (take to seen.rows)
 
--- what a task is called
-abbrev pub name_line : Named → List ℕ
-name_line named = codes "/* task " ++ decimal named.task ++ codes ": " ++ named.name ++ codes " */\n"
+-- the line that opens the array
+abbrev pub declaration_line : List ℕ → ℕ → ℕ → List ℕ
+declaration_line symbol slots m =
+    joined (codes "static const " ∷ symbol ∷ codes "_task " ∷ symbol ∷ codes "_schedule[" ∷ decimal (max slots 1) ∷ codes "][" ∷ decimal m ∷ codes "] = {\n" ∷ [])
 
--- what stands before the constants: what the array is, the names of tasks, and the types
-abbrev pub front_text : List Named → ℕ → ℕ → ℕ → List ℕ
-front_text names m n base = title_text m n base ++ flat_map name_line names ++ codes "#include <stdint.h>\n"
+-- what stands before the rows
+unfoldable pub header_text : List ℕ → Outline → List Named → List Joined → List ℕ
+header_text symbol o names tasks =
+    comments_text o ++ constants_text (capitals symbol) o ++ tasks_text (capitals symbol) o names tasks ++ type_line symbol tasks
+    ++ declaration_line symbol (o.to - o.from) o.processors
 
-abbrev pub constants_text : ℕ → ℕ → List ℕ
-constants_text m n = codes "enum { PFAIR_PROCESSORS = " ++ decimal m ++ codes ", PFAIR_SLOTS = " ++ decimal n ++ codes " };\n"
+abbrev pub table_end : List ℕ
+table_end = codes "};\n#endif\n"
 
-abbrev pub declaration_text : ℕ → ℕ → List ℕ
-declaration_text m n = codes "static const uint16_t pfair_schedule[" ++ decimal (max n 1) ++ codes "][" ++ decimal m ++ codes "] = {\n"
+abbrev pub table_text : List ℕ → Outline → List Named → List Joined → List (List (Option Pick)) → List ℕ
+table_text symbol o names tasks rows =
+    header_text symbol o names tasks ++ flat_map (row_text o.processors) (rows_or_nobody rows) ++ table_end
 
-abbrev pub array_text : List Named → ℕ → ℕ → ℕ → List (List (Option Pick)) → List ℕ
-array_text names m n base rows =
-    front_text names m n base ++ constants_text m n ++ declaration_text m n ++ flat_map (row_text m) (rows_or_nobody rows) ++ codes "};\n"
+-- of the slots from `from` on and below `to`
+abbrev pub text_between : Seen → Titles → List ℕ → ℕ → ℕ → List ℕ
+text_between seen titles symbol from to =
+    table_text symbol (outline_of seen titles from to) titles.names (admitted_in seen) (rows_between seen from to)
 
--- the schedule that was seen, a row for each slot below now
-unfoldable pub c_text : Seen → Titles → List ℕ
-c_text seen titles =
-    array_text titles.names seen.state.plan.settings.processors seen.state.now seen.state.plan.settings.base seen.rows
-
--- what stands before the rows; after it, where there is no slot, the row with nobody
-abbrev pub head_text : List Named → ℕ → ℕ → ℕ → List ℕ
-head_text names m n base =
-    front_text names m n base ++ constants_text m n ++ declaration_text m n ++ (if n == 0 then row_text m [] else [])
+-- the schedule that was seen: a row for each slot of the range
+unfoldable pub c_text : Seen → Titles → SlotRange → List ℕ → List ℕ
+c_text seen titles range symbol = text_between seen titles symbol (first_of range) (end_of range seen.state.now)

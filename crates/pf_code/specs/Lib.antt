@@ -1,2 +1,10 @@
+pub mod Parts
+pub mod Symbol
+pub mod Span
+pub mod Repetition
+pub mod Outline
+pub mod Header
+pub mod Tasks
 pub mod Array
+pub mod Laws
 pub mod Examples
