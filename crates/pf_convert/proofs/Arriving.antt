@@ -2,9 +2,13 @@
 use Rattle.std.proofs.Common.{◌≡◌, ℕ, ◌+◌, ◌-◌, ◌*◌, ◌/◌, ◌<◌, ◌≤◌, refl, subst, arith}
 use Rattle.std.proofs.Math.Nat.{div-mul-le_self, le_of_mul-le-mul_right}
 use Rattle.std.proofs.lemmas.Grind.{div_ceil_times}
+use Rattle.std.proofs.lemmas.Nat.{mul-le}
 use Rattle.std.specs.Int.{div_ceil}
-use Rattle.pf_convert.specs.Arrivals.{ArrivalsStayApart, ArrivalsWaitLessThanASlot}
+use Rattle.pf_convert.specs.Arrivals.{AlignedJobsAreDoneInTime, ArrivalsStayApart, ArrivalsWaitLessThanASlot, JobsAreDoneInTime, ReleasesStayApart}
 use Rattle.pf_convert.specs.Counting.{IsLeastCover}
+use Rattle.pf_convert.specs.Slots.{IsLongestPeriod}
+use Rattle.pf_convert.specs.declared.words.arrivals.Arrivals.{Arrivals}
+use Rattle.pf_convert.specs.declared.words.arrivals.Arrivals.TheVariants.{Aligned, Any}
 use Rattle.pf_convert.proofs.Counting.{cover_of}
 
 -- what is left of a cover without the slots of a period covers what is left of the time
@@ -30,3 +34,27 @@ less_than_more x q time p h = omega (arith, h)
 
 pub wait_less : ArrivalsWaitLessThanASlot
 wait_less q period time some = less_than_more (div_ceil time q) q time period (div_ceil_times time q some).1
+
+-- the slots of the longest period take no longer than what is due
+takes_no_longer : (arrivals : Arrivals) (q due longest : ℕ) → IsLongestPeriod arrivals q due longest → longest * q ≤ due
+takes_no_longer Aligned q due longest h = h.within
+takes_no_longer Any q due longest h = omega (arith, h.within)
+
+period_takes : (q longest period : ℕ) → period ≤ longest → period * q ≤ longest * q
+period_takes q longest period le = mul-le period q longest q le (omega arith)
+
+pub releases_apart : ReleasesStayApart
+releases_apart arrivals q due every longest period time some within is le =
+    let all : IsLeastCover (time + every) q (div_ceil (time + every) q) = cover_of (time + every) q (div_ceil (time + every) q) some refl in
+    apart_by q time every period (div_ceil (time + every) q) (div_ceil time q) some all.covers
+    (omega (arith, period_takes q longest period le, takes_no_longer arrivals q due longest is, within))
+    (cover_of time q (div_ceil time q) some refl)
+
+pub aligned_done : AlignedJobsAreDoneInTime
+aligned_done q due longest period slot is le = omega (arith, period_takes q longest period le, takes_no_longer Aligned q due longest is)
+
+pub done : JobsAreDoneInTime
+done q due longest period time some is le =
+    let next : div_ceil time q * q < time + q = (div_ceil_times time q some).1 in
+    let both : (longest + 1) * q ≤ due = is.within in
+    omega (arith, next, both, period_takes q longest period le)

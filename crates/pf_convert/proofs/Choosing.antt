@@ -33,12 +33,12 @@ IsBestOrNone processors outcomes n best = MatchOption best (NoneFits processors 
 
 pub quantum_passed : (processors : Option ℕ) (outcomes : List Outcome) (n : ℕ) (best : Option ℕ) → n < length outcomes
     → (Fits processors (outcome_at outcomes n) → ⊥) → IsBestOrNone processors outcomes n best → IsBestOrNone processors outcomes (n + 1) best
-quantum_passed processors outcomes n None lt never h = All-more (λ o. Fits processors o → ⊥) outcomes n (record { quantum = 0; needed = None }) lt h never
+quantum_passed processors outcomes n None lt never h = All-more (λ o. Fits processors o → ⊥) outcomes n (record { quantum = 0; needed = None; faults = 0 }) lt h never
 quantum_passed processors outcomes n (Some i) lt never h = record {
   within = h.within;
   fits = h.fits;
   best =
-      All-more (λ o. Fits processors o → IsNoWorseQuantum processors (outcome_at outcomes i) o) outcomes n (record { quantum = 0; needed = None }) lt h.best
+      All-more (λ o. Fits processors o → IsNoWorseQuantum processors (outcome_at outcomes i) o) outcomes n (record { quantum = 0; needed = None; faults = 0 }) lt h.best
       (λ yes. absurd (never yes));
 }
 
@@ -48,7 +48,7 @@ taken_first processors outcomes n lt fits none = record {
   within = lt;
   fits = fits;
   best =
-      All-more (λ o. Fits processors o → IsNoWorseQuantum processors (outcome_at outcomes n) o) outcomes n (record { quantum = 0; needed = None }) lt
+      All-more (λ o. Fits processors o → IsNoWorseQuantum processors (outcome_at outcomes n) o) outcomes n (record { quantum = 0; needed = None; faults = 0 }) lt
       (All-weaker (λ o. Fits processors o → ⊥) (λ o. Fits processors o → IsNoWorseQuantum processors (outcome_at outcomes n) o) (λ o never yes. absurd (never yes)) (take n outcomes) none)
       (λ yes. same_quantum processors (outcome_at outcomes n));
 }
@@ -59,7 +59,7 @@ kept processors outcomes n i lt no_worse h = record {
   within = h.within;
   fits = h.fits;
   best =
-      All-more (λ o. Fits processors o → IsNoWorseQuantum processors (outcome_at outcomes i) o) outcomes n (record { quantum = 0; needed = None }) lt h.best
+      All-more (λ o. Fits processors o → IsNoWorseQuantum processors (outcome_at outcomes i) o) outcomes n (record { quantum = 0; needed = None; faults = 0 }) lt h.best
       (λ yes. no_worse);
 }
 
@@ -69,7 +69,7 @@ replaced processors outcomes n i lt fits no_worse h = record {
   within = lt;
   fits = fits;
   best =
-      All-more (λ o. Fits processors o → IsNoWorseQuantum processors (outcome_at outcomes n) o) outcomes n (record { quantum = 0; needed = None }) lt
+      All-more (λ o. Fits processors o → IsNoWorseQuantum processors (outcome_at outcomes n) o) outcomes n (record { quantum = 0; needed = None; faults = 0 }) lt
       (All-weaker (λ o. Fits processors o → IsNoWorseQuantum processors (outcome_at outcomes i) o) (λ o. Fits processors o → IsNoWorseQuantum processors (outcome_at outcomes n) o)
       (λ o f yes. no_worse_quantum processors (outcome_at outcomes n) (outcome_at outcomes i) o no_worse (f yes)) (take n outcomes) h.best)
       (λ yes. same_quantum processors (outcome_at outcomes n));

@@ -6,3 +6,5 @@ pub mod Holding
 pub mod Rows
 pub mod Times
 pub mod Each
+pub mod Known
+pub mod Shortest

@@ -1,10 +1,11 @@
--- All divisors of a number from those up to its square root, and the greatest of them within a period.
-use Rattle.std.proofs.Common.{◌≡◌, ℕ, zero, suc, ◌+◌, ◌*◌, ◌/◌, ◌%◌, ◌<◌, ◌≤◌, ◌⊎◌, inl, inr, List, [], ◌∷◌, ◌++◌, take, length, get_or, sym, ◌∙◌, ap, subst, arith}
+-- All divisors of a number from those up to its square root, and the last of them within a period.
+use Rattle.std.proofs.Common.{◌≡◌, ℕ, zero, suc, ◌+◌, ◌*◌, ◌/◌, ◌%◌, ◌<◌, ◌≤◌, inl, inr, List, [], ◌∷◌, ◌++◌, length, get_or, sym, ◌∙◌, ap, subst, arith}
 use Rattle.std.specs.Prelude.{All, Contains, ◌==◌}
+use Rattle.std.specs.List.Sorted.{IsPermutation, IsNonDecreasing}
 use Rattle.std.proofs.Math.Nat.{mod-one, mul-mod_left, mul-div_cancel, mul-le-mul}
 use Rattle.std.proofs.lemmas.Bool.{cases_lt, cond_both, eqb-true, eqb-false}
-use Rattle.std.proofs.lemmas.List.{take_all}
-use Rattle.std.proofs.lemmas.List.Elements.{All-push, All-more, All-weaker, All-contains, Contains-append_left, Contains-push}
+use Rattle.std.proofs.lemmas.List.Elements.{All-push, Contains-append_left, Contains-push, at_from_Contains}
+use Rattle.std.proofs.lemmas.List.Sorted.{All-permutation, Contains-permutation}
 use Rattle.pf_convert.specs.Smooth.{AreDivisors, with_pair}
 use Rattle.pf_convert.specs.Rounding.{rounded}
 use Rattle.pf_convert.proofs.Division.{quotient_of, some_factor}
@@ -88,29 +89,13 @@ all_divisors n root low ds some square past h = record {
       ];
 }
 
--- a divisor that is at most the period, and none of these within it is greater
-pub record IsGreatestOf (base period : ℕ) (divisors : List ℕ) (g : ℕ) : Type 0 where
-  pub some : 1 ≤ g
-  pub within : g ≤ period
-  pub divides : base % g ≡ 0
-  pub greatest : All (λ d. d ≤ period → d ≤ g) divisors
-
-pub one_looked_at : (base period : ℕ) (ds : List ℕ) (i g k : ℕ) → i < length ds → AreDivisors base ds → IsGreatestOf base period (take i ds) g
-    → g ≤ k → (get_or ds i 0 ≤ period → get_or ds i 0 ≤ k) → (k ≡ g) ⊎ ((k ≡ get_or ds i 0) × (get_or ds i 0 ≤ period))
-    → IsGreatestOf base period (take (i + 1) ds) k
-one_looked_at base period ds i g k lt are h kept within one =
-    let widened : All (λ d. d ≤ period → d ≤ k) (take i ds) =
-    All-weaker (λ d. d ≤ period → d ≤ g) (λ d. d ≤ period → d ≤ k) (λ d f p. omega (arith, f p, kept)) (take i ds) h.greatest in
-    record {
-      some = omega (arith, h.some, kept);
-      within = elim one [ inl same ↦ omega (arith, same, h.within) | inr both ↦ omega (arith, both.0, both.1) ];
-      divides =
-          elim one [
-            | inl same ↦ subst (λ v. base % v ≡ 0) (sym same) h.divides
-            | inr both ↦ subst (λ v. base % v ≡ 0) (sym both.0) (are.sound i 0 lt)
-          ];
-      greatest = All-more (λ d. d ≤ period → d ≤ k) ds i 0 lt widened within;
-    }
+-- the divisors in another order
+pub divisors_moved : (n : ℕ) (ds es : List ℕ) → IsPermutation ds es → AreDivisors n ds → AreDivisors n es
+divisors_moved n ds es moved h = record {
+  some = All-permutation (λ d. 1 ≤ d) ds es moved h.some;
+  sound = All-permutation (λ d. n % d ≡ 0) ds es moved h.sound;
+  complete = λ d some e. Contains-permutation ds es d moved (h.complete d some e);
+}
 
 -- the greatest divisor within the period
 pub record IsGreatest (base period g : ℕ) : Type 0 where
@@ -150,10 +135,18 @@ rounded_is base (suc p) some =
     (λ yes. at_itself base p (eqb-true (base % suc p) 0 yes))
     (λ never. at_lower base p (eqb-false (base % suc p) 0 never) (λ one. rounded_is base p one))
 
-pub greatest_is_rounded : (base period : ℕ) (ds : List ℕ) (i g : ℕ) → 1 ≤ period → length ds ≤ i → AreDivisors base ds → IsGreatestOf base period (take i ds) g → g ≡ rounded base period
-greatest_is_rounded base period ds i g some le are h =
-    let is = rounded_is base period some in
-    let all : All (λ d. d ≤ period → d ≤ g) ds = subst (λ xs. All (λ d. d ≤ period → d ≤ g) xs) (take_all i ds le) h.greatest in
-    let up : rounded base period ≤ g =
-    All-contains (λ d. d ≤ period → d ≤ g) ds (rounded base period) all (are.complete (rounded base period) is.some is.divides) is.within in
-    omega (arith, up, is.greatest g h.some h.within h.divides)
+-- the last of rising divisors that is at most the period
+pub last_is_rounded : (n period i : ℕ) (ds : List ℕ) → AreDivisors n ds → IsNonDecreasing ds → i < length ds → get_or ds i 0 ≤ period
+    → (i + 1 < length ds → period < get_or ds (i + 1) 0) → rounded n period ≡ get_or ds i 0
+last_is_rounded n period i ds are rising lt within last =
+    let some : 1 ≤ get_or ds i 0 = are.some i 0 lt in
+    let is : IsGreatest n period (rounded n period) = rounded_is n period (omega (arith, some, within)) in
+    let found = at_from_Contains ds (rounded n period) (are.complete (rounded n period) is.some is.divides) in
+    let at : get_or ds found.0 0 ≡ rounded n period = found.2 0 in
+    let up : get_or ds i 0 ≤ rounded n period = is.greatest (get_or ds i 0) some within (are.sound i 0 lt) in
+    elim (cases_lt found.0 (i + 1)) [
+      | inl below ↦ (let down : get_or ds found.0 0 ≤ get_or ds i 0 = rising found.0 i 0 (omega (arith, below)) lt in omega (arith, up, down, at))
+      | inr above ↦
+          (let next : get_or ds (i + 1) 0 ≤ get_or ds found.0 0 = rising (i + 1) found.0 0 above found.1 in
+          absurd (omega (arith, last (omega (arith, above, found.1)), next, at, is.within)))
+    ]

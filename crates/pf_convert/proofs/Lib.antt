@@ -4,9 +4,12 @@ pub mod Common
 pub mod Powers
 pub mod Dividing
 pub mod Rounding
+pub mod Totals
+pub mod Stretches
 pub mod Planned
 pub mod Working
 pub mod Choosing
+pub mod Closing
 pub mod Examples
 pub mod Arriving
 pub mod ConversionLemmas

@@ -2,6 +2,8 @@ pub mod Answers
 pub mod Conversions
 pub mod Json
 pub mod Laws
+pub mod Notes
+pub mod PlanFaults
 pub mod Planned
 pub mod Report
 pub mod Script

@@ -3,8 +3,11 @@ pub mod Slots
 pub mod Multiples
 pub mod Smooth
 pub mod Rounding
+pub mod Stretches
+pub mod Totals
 pub mod Plans
 pub mod Outcomes
+pub mod Quotients
 pub mod Arrivals
 pub mod Conversion
 pub mod List

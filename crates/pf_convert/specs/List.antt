@@ -2,7 +2,12 @@ pub use Rattle.pf_text.specs.Rows.Rows
 pub use Rattle.pf_text.specs.Columns.Decimals
 pub mod Faults
 pub mod Heading
+pub mod Heads
+pub mod Hints
 pub mod List
+pub mod Messages
 pub mod Parts
+pub mod Quotes
 pub mod Reading
 pub mod Times
+pub mod Units

@@ -1,5 +1,6 @@
 -- Numbers without a prime factor above 7, and the divisors of a number.
 use Rattle.std.specs.Prelude.{ℕ, ◌*◌, ◌/◌, ◌%◌, ◌^◌, ◌≡◌, ◌≤◌, ◌==◌, if◌then◌else◌, List, [], ◌∷◌, ◌++◌, All, Contains, map}
+use Rattle.std.specs.List.Sorted.{IsNonDecreasing}
 use Rattle.pf_weight.specs.declared.base.TheConstants.{LARGEST_BASE}
 use Rattle.pf_convert.specs.declared.divided.Divided.{Divided}
 
@@ -51,11 +52,12 @@ pub record AreDivisors (n : ℕ) (divisors : List ℕ) : Type 0 where
 abbrev pub with_pair : ℕ → ℕ → List ℕ → List ℕ
 with_pair n d divisors = if n % d == 0 then (divisors ++ d ∷ []) ++ n / d ∷ [] else divisors
 
--- a base with its divisors
+-- a base with its divisors, rising
 pub record IsDivided (d : Divided) : Type 0 where
   pub some : 1 ≤ d.base
   pub within : d.base ≤ LARGEST_BASE
   pub divisors : AreDivisors d.base d.divisors.items
+  pub rising : IsNonDecreasing d.divisors.items
 
 -- these are the bases without a prime factor above 7, each with its divisors
 pub record AreSmoothBases (bases : List Divided) : Type 0 where

@@ -2,6 +2,6 @@
 #[derive(Drop)]
 pub struct Divided {
     pub base: u64,
-    /// In no order.
+    /// Rising.
     pub divisors: Vec<u64>,
 }

@@ -1,4 +1,5 @@
 ghost use Rattle.std.specs.Prelude.{◌≡◌, ◌≤◌, IfOk, MatchOption, All, length, map};
+ghost use Rattle.std.specs.List.Sorted.{IsNonDecreasing};
 ghost use Rattle.pf_weight.specs.declared.base.TheConstants.{LARGEST_BASE};
 ghost use Rattle.pf_weight.specs.declared.task.TheConstants.{LARGEST_TASK};
 ghost use Rattle.pf_convert.specs.Multiples.{IsCommon, HasNoCommon};
@@ -59,6 +60,7 @@ fn rounded_tasks(
     tasks: &[Slotted],
 ) -> Result<Vec<Slotted>, AllocError>
     requires divisors { AreDivisors base divisors.now }
+    requires rising { IsNonDecreasing divisors.now }
     requires slotted { All IsSlotted tasks.now }
     ensures { IfOk result (λ v. v.items ≡ map (rounded_task base) tasks.now) }
 {
@@ -87,7 +89,7 @@ pub fn rounded_plan(
     requires few { length tasks.now ≤ LARGEST_TASK }
     ensures { IfOk result (λ plan. MatchOption plan (HasNoBase tasks.now) (IsRounded tasks.now)) }
 {
-    let Some(best) = best_base(bases, tasks) else {
+    let Some(best) = best_base(alloc, bases, tasks)? else {
         return Ok(None);
     };
     let divisors = divisors_of(alloc, best.base)?;

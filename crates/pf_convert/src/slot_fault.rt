@@ -2,7 +2,7 @@
 #[derive(Clone, Copy)]
 pub enum SlotFault {
     /// The period would be 0 slots.
-    EveryBelowQuantum,
+    DueTooSoon,
     /// A job would take more quanta than its period has slots.
     CostAbovePeriod {
         /// The quanta of a job.
@@ -20,4 +20,6 @@ pub enum SlotFault {
         /// How many slots before its window.
         early: u64,
     },
+    /// Jobs arrive at any time, and a quantum might run before its job arrives.
+    BeforeArrival,
 }

@@ -8,5 +8,6 @@ pub mod Named
 pub mod Saying
 pub mod Whole
 pub mod Told
+pub mod Tried
 pub mod Planned
 pub mod Asked

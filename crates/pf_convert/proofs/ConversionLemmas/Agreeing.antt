@@ -1,12 +1,12 @@
 -- Whether a plan fits, as each answer tells it.
-use Rattle.std.proofs.Common.{◌≡◌, ℕ, ◌*◌, ◌+◌, ◌≤◌, ◌<◌, ◌⊎◌, inl, inr, arith, refl, true, false, List, Some, codes, slice_index, ap}
+use Rattle.std.proofs.Common.{◌≡◌, ℕ, ◌*◌, ◌≤◌, inl, inr, arith, refl, true, false, List, Some, codes, slice_index, ap}
 use Rattle.std.specs.Prelude.{◌↔◌, nat_le}
 use Rattle.std.proofs.lemmas.Bool.{cases_lt, le-leb, lt-leb}
 use Rattle.std.proofs.lemmas.Nat.{mul-le}
 use Rattle.pf_vocabulary.specs.declared.fault.status.Status.TheVariants.{Done, FailedOn}
 use Rattle.pf_convert.specs.Plans.{IsNeeded}
 use Rattle.pf_convert.specs.Conversion.Answers.{fit_status}
-use Rattle.pf_convert.specs.Conversion.Laws.{AnswersAgree, IsToldAlike}
+use Rattle.pf_convert.specs.Conversion.Laws.{AnswersAgree}
 use Rattle.pf_convert.specs.Conversion.Json as json
 use Rattle.pf_convert.specs.Conversion.Table as table
 

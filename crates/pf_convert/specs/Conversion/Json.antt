@@ -2,13 +2,18 @@
 use Rattle.std.specs.Prelude.{ℕ, ◌+◌, ◌*◌, ◌==◌, Bool, true, false, nat_le, if◌then◌else◌, Option, None, Some, unwrap_or, List, [], ◌∷◌, ◌++◌, codes}
 use Rattle.std.specs.Fmt.{decimal}
 use Rattle.pf_convert.specs.declared.plan.Plan.{Plan}
+use Rattle.pf_convert.specs.declared.plan_fault.PlanFault.{PlanFault}
 use Rattle.pf_convert.specs.declared.slotted.Slotted.{Slotted}
+use Rattle.pf_convert.specs.declared.words.arrivals.Arrivals.{Arrivals}
+use Rattle.pf_convert.specs.declared.words.arrivals.Arrivals.TheVariants.{Aligned, Any}
 use Rattle.pf_vocabulary.specs.Names.Slots.{unit_word}
 use Rattle.pf_scenario.specs.declared.settings.TheConstants.{MOST_PROCESSORS}
 use Rattle.pf_convert.specs.declared.list.listed.Listed.{Listed}
+use Rattle.pf_convert.specs.declared.conversion.list_file.ListFile.{ListFile}
 use Rattle.pf_convert.specs.declared.conversion.planned.Planned.{Planned}
 use Rattle.pf_convert.specs.declared.conversion.table.Series.{Series}
 use Rattle.pf_convert.specs.List.Parts.{joined}
+use Rattle.pf_convert.specs.Conversion.PlanFaults.{fault_place, fault_words, place_text}
 use Rattle.pf_convert.specs.Conversion.Script.{numbered}
 
 -- what stands before the element of a list at a place
@@ -33,14 +38,24 @@ slots_item quantum place s =
     joined (comma place ∷ codes "{\"arrival\":" ∷ decimal ((s.period + 1) * quantum) ∷ codes ",\"cost\":" ∷ decimal s.cost ∷ codes ",\"early\":" ∷ decimal s.early
     ∷ codes ",\"join\":" ∷ decimal s.join ∷ codes ",\"period\":" ∷ decimal s.period ∷ codes ",\"response\":" ∷ decimal (s.period * quantum) ∷ codes "}" ∷ [])
 
--- the line of a fault, at a place
-abbrev pub fault_item : ℕ → List ℕ → List ℕ
-fault_item place line = joined (comma place ∷ codes "\"" ∷ line ∷ codes "\"" ∷ [])
+abbrev pub arrivals_word : Arrivals → List ℕ
+arrivals_word Aligned = codes "aligned"
+arrivals_word Any = codes "any"
+
+unfoldable pub arrivals_json : Arrivals → List ℕ
+arrivals_json arrivals = joined (codes "{\"arrivals\":\"" ∷ arrivals_word arrivals ∷ codes "\",\"best\":" ∷ [])
+
+-- a fault, at a place
+abbrev pub fault_item : ListFile → Arrivals → ℕ → ℕ → PlanFault → List ℕ
+fault_item f arrivals quantum place fault =
+    joined (comma place ∷ codes "\"" ∷ []) ++ place_text f.text.now (fault_place f.heading fault) ++ fault_words f.unit arrivals quantum fault
+    ++ joined (codes "\"" ∷ [])
 
 -- a task in time, at a place
 abbrev pub task_item : ℕ → Listed → List ℕ
 task_item place task =
-    joined (comma place ∷ codes "{\"early\":" ∷ decimal task.times.early ∷ codes ",\"every\":" ∷ decimal task.times.every ∷ codes ",\"first\":"
+    joined (comma place ∷ codes "{\"deadline\":" ∷ []) ++ option_json task.times.deadline
+    ++ joined (codes ",\"early\":" ∷ decimal task.times.early ∷ codes ",\"every\":" ∷ decimal task.times.every ∷ codes ",\"first\":"
     ∷ decimal task.times.first ∷ codes ",\"name\":\"" ∷ task.name ∷ codes "\",\"work\":" ∷ decimal task.times.work ∷ codes "}" ∷ [])
 
 abbrev pub plan_head : Option ℕ → ℕ → ℕ → Plan → List ℕ
@@ -52,28 +67,32 @@ unfoldable pub plan_json : Option ℕ → ℕ → ℕ → Plan → List ℕ
 plan_json processors quantum needed plan =
     plan_head processors quantum needed plan ++ numbered (slots_item quantum) 0 plan.tasks.items ++ joined (codes "]}" ∷ [])
 
-unfoldable pub no_plan_json : ℕ → List (List ℕ) → List ℕ
-no_plan_json quantum faults =
-    joined (codes "{\"base\":null,\"exact\":null,\"faults\":[" ∷ []) ++ numbered fault_item 0 faults
+unfoldable pub no_plan_json : ListFile → Arrivals → ℕ → List PlanFault → List ℕ
+no_plan_json f arrivals quantum faults =
+    joined (codes "{\"base\":null,\"exact\":null,\"faults\":[" ∷ []) ++ numbered (fault_item f arrivals quantum) 0 faults
     ++ joined (codes "],\"fits\":false,\"load\":null,\"processors\":null,\"quantum\":" ∷ decimal quantum ∷ codes ",\"tasks\":[]}" ∷ [])
 
-abbrev pub json_with : Option ℕ → Planned → Option Plan → List ℕ
-json_with processors p None = no_plan_json p.quantum.length p.faults
-json_with processors p (Some plan) = plan_json processors p.quantum.length (unwrap_or p.needed 0) plan
+abbrev pub json_with : ListFile → Series → Planned → Option Plan → List ℕ
+json_with f s p None = no_plan_json f s.arrivals p.quantum.length p.faults.items
+json_with f s p (Some plan) = plan_json s.processors p.quantum.length (unwrap_or p.needed 0) plan
 
 -- what a quantum gives, at a place
-abbrev pub quantum_item : Option ℕ → ℕ → Planned → List ℕ
-quantum_item processors place p = joined (comma place ∷ []) ++ json_with processors p p.plan
+abbrev pub quantum_item : ListFile → Series → ℕ → Planned → List ℕ
+quantum_item f s place p = joined (comma place ∷ []) ++ json_with f s p p.plan
 
-abbrev pub json_head : Series → List ℕ
-json_head s =
-    joined (codes "{\"best\":" ∷ []) ++ option_json s.best ++ joined (codes ",\"processors\":" ∷ []) ++ option_json s.processors
-    ++ joined (codes ",\"quanta\":[" ∷ [])
+unfoldable pub best_json : Option ℕ → List ℕ
+best_json best = option_json best ++ joined (codes ",\"processors\":" ∷ [])
+
+unfoldable pub processors_json : Option ℕ → List ℕ
+processors_json processors = option_json processors ++ joined (codes ",\"quanta\":[" ∷ [])
+
+unfoldable pub json_head : Series → List ℕ
+json_head s = arrivals_json s.arrivals ++ best_json s.best ++ processors_json s.processors
 
 abbrev pub json_tail : Series → List ℕ
 json_tail s = joined (codes "],\"unit\":\"" ∷ unit_word s.unit ∷ codes "\",\"work\":" ∷ decimal s.work ∷ codes "}\n" ∷ [])
 
-unfoldable pub json_text : Series → ℕ → List Listed → List Planned → List ℕ
-json_text s switch tasks all =
-    json_head s ++ numbered (quantum_item s.processors) 0 all ++ joined (codes "],\"switch\":" ∷ decimal switch ∷ codes ",\"tasks\":[" ∷ [])
+unfoldable pub json_text : ListFile → Series → ℕ → List Listed → List Planned → List ℕ
+json_text f s switch tasks all =
+    json_head s ++ numbered (quantum_item f s) 0 all ++ joined (codes "],\"switch\":" ∷ decimal switch ∷ codes ",\"tasks\":[" ∷ [])
     ++ numbered task_item 0 tasks ++ json_tail s

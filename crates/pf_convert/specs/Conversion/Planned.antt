@@ -1,5 +1,6 @@
 -- What a quantum gives the tasks of a list.
-use Rattle.std.specs.Prelude.{⊤, ℕ, ◌≡◌, ◌≤◌, ◌⊎◌, Option, None, Some, MatchOption, List, [], ◌∷◌, All, codes}
+use Rattle.std.specs.Prelude.{⊤, ℕ, ◌≡◌, ◌<◌, ◌≤◌, ◌⊎◌, Option, None, Some, MatchOption, List, [], ◌∷◌, All, length}
+use Rattle.pf_convert.specs.declared.divided.Divided.{Divided}
 use Rattle.pf_convert.specs.declared.plan.Plan.{Plan}
 use Rattle.pf_convert.specs.declared.quantum.Quantum.{Quantum}
 use Rattle.pf_convert.specs.declared.slotted.Slotted.{Slotted}
@@ -8,7 +9,10 @@ use Rattle.pf_convert.specs.Plans.{IsExact, IsRounded, IsNeeded}
 use Rattle.pf_convert.specs.Rounding.{HasNoBase}
 use Rattle.pf_convert.specs.Slots.{IsSlotted}
 use Rattle.pf_weight.specs.declared.base.TheConstants.{LARGEST_BASE}
-use Rattle.pf_vocabulary.specs.declared.names.unit.Unit.{Unit}
+use Rattle.pf_convert.specs.declared.plan_fault.PlanFault.{PlanFault}
+use Rattle.pf_convert.specs.declared.plan_fault.PlanFault.TheVariants.{NoBase}
+use Rattle.pf_convert.specs.declared.words.arrivals.Arrivals.{Arrivals}
+use Rattle.pf_convert.specs.Smooth.{AreSmoothBases}
 use Rattle.pf_convert.specs.declared.list.listed.Listed.{Listed}
 use Rattle.pf_convert.specs.declared.conversion.planned.Planned.{Planned}
 use Rattle.pf_convert.specs.Conversion.Slots.{slot_faults, slots_in}
@@ -32,9 +36,13 @@ abbrev pub NeedsFor : Option Plan → Option ℕ → Type 0
 NeedsFor None needed = needed ≡ None
 NeedsFor (Some plan) needed = MatchOption needed ⊥ (IsNeeded plan.base plan.load)
 
--- the line of a plan that there is not
-abbrev pub plan_faults : Option Plan → List (List ℕ)
-plan_faults None = codes "no base up to 1073741824 holds all tasks" ∷ []
+-- where there are some yet, they are the bases without a prime factor above 7
+abbrev pub AreBasesOrNone : List Divided → Type 0
+AreBasesOrNone bases = 0 < length bases → AreSmoothBases bases
+
+-- the fault of a plan that there is not
+abbrev pub plan_faults : Option Plan → List PlanFault
+plan_faults None = NoBase ∷ []
 plan_faults (Some plan) = []
 
 -- what a quantum gives tasks that have these slots
@@ -42,19 +50,19 @@ pub record IsPlannedOf (q : Quantum) (tasks : List Slotted) (p : Planned) : Type
   pub quantum : p.quantum ≡ q
   pub planned : IsPlanned tasks p.plan
   pub needs : NeedsFor p.plan p.needed
-  pub told : p.faults ≡ plan_faults p.plan
+  pub lacks : p.faults.items ≡ plan_faults p.plan
 
 -- what it gives where tasks have none
-pub record HasNoPlan (q : Quantum) (lines : List (List ℕ)) (p : Planned) : Type 0 where
+pub record HasNoPlan (q : Quantum) (faults : List PlanFault) (p : Planned) : Type 0 where
   pub quantum : p.quantum ≡ q
   pub planned : p.plan ≡ None
   pub needs : p.needed ≡ None
-  pub told : p.faults ≡ lines
+  pub lacks : p.faults.items ≡ faults
 
-abbrev pub IsPlannedWith : Quantum → List Slotted → List (List ℕ) → Planned → Type 0
+abbrev pub IsPlannedWith : Quantum → List Slotted → List PlanFault → Planned → Type 0
 IsPlannedWith q slots [] p = IsPlannedOf q slots p
-IsPlannedWith q slots (line ∷ lines) p = HasNoPlan q (line ∷ lines) p
+IsPlannedWith q slots (fault ∷ faults) p = HasNoPlan q (fault ∷ faults) p
 
--- what a quantum gives these tasks; times are told in a unit
-abbrev pub IsPlannedAt : Unit → Quantum → List Listed → Planned → Type 0
-IsPlannedAt unit q tasks p = IsPlannedWith q (slots_in q tasks) (slot_faults unit q tasks) p
+-- what a quantum gives these tasks, where their jobs arrive so
+abbrev pub IsPlannedAt : Quantum → Arrivals → List Listed → Planned → Type 0
+IsPlannedAt q arrivals tasks p = IsPlannedWith q (slots_in q arrivals tasks) (slot_faults q arrivals tasks) p

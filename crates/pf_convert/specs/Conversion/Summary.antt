@@ -1,7 +1,7 @@
 -- The lines below the table of a plan.
 use Rattle.std.specs.Prelude.{ℕ, ◌-◌, ◌*◌, Bool, true, false, nat_le, if◌then◌else◌, List, [], ◌∷◌, ◌++◌, codes}
 use Rattle.std.specs.Fmt.{decimal}
-use Rattle.pf_text.specs.Columns.Decimals.{up}
+use Rattle.pf_text.specs.Columns.Decimals.{cut, up}
 use Rattle.pf_convert.specs.declared.plan.Plan.{Plan}
 use Rattle.pf_convert.specs.List.Parts.{joined}
 
@@ -15,15 +15,13 @@ base_line base exact = joined (codes "base " ∷ decimal base ∷ base_words exa
 -- what is asked for, and of how much; the work is told in billionths of a processor
 abbrev pub load_line : ℕ → ℕ → ℕ → ℕ → List ℕ
 load_line processors base load work =
-    codes "work " ++ up work 1000000000 4 ++ codes ", planned " ++ up load base 4
-    ++ joined (codes " of " ∷ decimal processors ∷ codes " processors (" ∷ decimal load ∷ codes " of " ∷ decimal (processors * base) ∷ codes " units), " ∷ [])
+    codes "work " ++ up work 1000000000 4 ++ codes ", planned " ++ up load base 4 ++ joined (codes " of " ∷ decimal processors ∷ codes " processors, " ∷ [])
 
--- what is free, or by how much it is too much
-abbrev pub room_text : ℕ → ℕ → List ℕ
-room_text load room =
-    if nat_le load room then joined (decimal (room - load) ∷ codes " free: fits\n" ∷ [])
-    else joined (decimal (load - room) ∷ codes " too many: does not fit\n" ∷ [])
+-- which part of a processor is free, rounded down, or by how much it is too much, rounded up
+abbrev pub room_text : ℕ → ℕ → ℕ → List ℕ
+room_text base load room =
+    if nat_le load room then cut (room - load) base 4 ++ codes " free: fits\n" else up (load - room) base 4 ++ codes " too much: does not fit\n"
 
 unfoldable pub summary_text : ℕ → Plan → ℕ → List ℕ
 summary_text processors plan work =
-    base_line plan.base plan.exact ++ load_line processors plan.base plan.load work ++ room_text plan.load (processors * plan.base)
+    base_line plan.base plan.exact ++ load_line processors plan.base plan.load work ++ room_text plan.base plan.load (processors * plan.base)

@@ -1,12 +1,10 @@
 -- The table of what several quanta give.
-use Rattle.std.specs.Prelude.{ℕ, ◌==◌, Bool, true, false, nat_le, nat_lt, if◌then◌else◌, Option, None, Some, unwrap_or, List, [], ◌∷◌, ◌++◌, length, codes}
-use Rattle.std.specs.List.{flat_map}
+use Rattle.std.specs.Prelude.{ℕ, ◌==◌, Bool, true, false, nat_le, if◌then◌else◌, Option, None, Some, unwrap_or, List, [], ◌∷◌, ◌++◌, codes}
 use Rattle.std.specs.Fmt.{decimal}
 use Rattle.pf_text.specs.Columns.Decimals.{up, with_fewest_places}
 use Rattle.pf_convert.specs.declared.plan.Plan.{Plan}
-use Rattle.pf_vocabulary.specs.declared.names.unit.Unit.{Unit}
 use Rattle.pf_scenario.specs.declared.settings.TheConstants.{MOST_PROCESSORS}
-use Rattle.pf_convert.specs.List.Times.{places_of, time_text}
+use Rattle.pf_convert.specs.List.Times.{places_of}
 use Rattle.pf_convert.specs.declared.conversion.planned.Planned.{Planned}
 use Rattle.pf_convert.specs.declared.conversion.table.Series.{Series}
 use Rattle.pf_convert.specs.List.Parts.{joined}
@@ -44,18 +42,3 @@ quantum_line s place p = line_with s place p p.plan
 
 unfoldable pub series_text : Series → List Planned → List ℕ
 series_text s all = codes "quantum,base,periods,work,load,utilization,processors,fits,best\n" ++ numbered (quantum_line s) 0 all
-
--- the line of a quantum with this first fault, and so many more
-abbrev pub more_words : ℕ → List ℕ
-more_words more = if nat_lt 0 more then joined (codes ", and " ∷ decimal more ∷ codes " more" ∷ []) else []
-
-abbrev pub note_line : Unit → ℕ → List ℕ → ℕ → List ℕ
-note_line unit quantum first more = joined (codes "quantum " ∷ time_text unit quantum ∷ codes ": " ∷ first ∷ []) ++ more_words more
-
--- the line of a quantum, where it has faults
-abbrev pub notes_of : Unit → ℕ → List (List ℕ) → List (List ℕ)
-notes_of unit quantum [] = []
-notes_of unit quantum (first ∷ more) = note_line unit quantum first (length more) ∷ []
-
-abbrev pub notes_in : Unit → List Planned → List (List ℕ)
-notes_in unit all = flat_map (λ p. notes_of unit p.quantum.length p.faults) all

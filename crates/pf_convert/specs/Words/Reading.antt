@@ -1,5 +1,5 @@
 -- What the words of a conversion ask for.
-use Rattle.std.specs.Prelude.{ℕ, ◌≡◌, ◌<◌, ◌≤◌, All, IfSome, ◌==◌, ◌&&◌, Bool, true, false, nat_le, nat_lt, if◌then◌else◌, option_map, Option, None, Some, Result, Ok, Err, List, [], ◌∷◌, ◌++◌, length, codes}
+use Rattle.std.specs.Prelude.{ℕ, ◌≡◌, ◌<◌, ◌≤◌, All, IfSome, ◌==◌, ◌&&◌, Bool, true, false, nat_le, nat_lt, if◌then◌else◌, option_map, unwrap_or, Option, None, Some, Result, Ok, Err, List, [], ◌∷◌, ◌++◌, length, codes}
 use Rattle.std.specs.Str.{bytes_eq}
 use Rattle.pf_convert.specs.declared.quantum.TheConstants.{LONGEST_QUANTUM}
 use Rattle.pf_vocabulary.specs.declared.names.unit.Unit.{Unit}
@@ -12,7 +12,9 @@ use Rattle.pf_convert.specs.declared.words.conversion.Conversion.{Conversion}
 use Rattle.pf_convert.specs.declared.words.conversion.ConvertFormat.{ConvertFormat}
 use Rattle.pf_convert.specs.declared.words.conversion.ConvertFormat.TheVariants.{Script, Table, Json}
 use Rattle.pf_convert.specs.declared.words.mistake.ConvertMistake.{ConvertMistake}
-use Rattle.pf_convert.specs.declared.words.mistake.ConvertMistake.TheVariants.{Format, Unit as BadUnit, Quantum, Switch, Processors, SwitchNotBelow, SeveralQuanta}
+use Rattle.pf_convert.specs.declared.words.mistake.ConvertMistake.TheVariants.{Format, Unit as BadUnit, Quantum, Switch, Processors, Arrivals as BadArrivals, SwitchNotBelow, SeveralQuanta}
+use Rattle.pf_convert.specs.declared.words.arrivals.Arrivals.{Arrivals}
+use Rattle.pf_convert.specs.declared.words.arrivals.Arrivals.TheVariants.{Aligned, Any}
 use Rattle.pf_convert.specs.declared.words.quanta.TheConstants.{MOST_QUANTA}
 use Rattle.pf_convert.specs.declared.words.read.ConvertWords.{ConvertWords}
 
@@ -28,14 +30,25 @@ abbrev pub format_given : Option (List ℕ) → Result (Option ConvertFormat) Co
 format_given None = Ok None
 format_given (Some name) = format_named name
 
--- the unit of a name, milliseconds where there is none
-abbrev pub unit_or_mistake : Option Unit → Result Unit ConvertMistake
+-- the unit of a name, where there is one
+abbrev pub unit_or_mistake : Option Unit → Result (Option Unit) ConvertMistake
 unit_or_mistake None = Err BadUnit
-unit_or_mistake (Some unit) = Ok unit
+unit_or_mistake (Some unit) = Ok (Some unit)
 
-abbrev pub unit_given : Option (List ℕ) → Result Unit ConvertMistake
-unit_given None = Ok Millisecond
+abbrev pub unit_given : Option (List ℕ) → Result (Option Unit) ConvertMistake
+unit_given None = Ok None
 unit_given (Some name) = unit_or_mistake (unit_named name)
+
+-- when jobs arrive, as slots begin where it is left out
+unfoldable pub arrivals_named : List ℕ → Result Arrivals ConvertMistake
+arrivals_named name =
+    if bytes_eq name (codes "aligned") then Ok Aligned
+    else if bytes_eq name (codes "any") then Ok Any
+    else Err BadArrivals
+
+abbrev pub arrivals_given : Option (List ℕ) → Result Arrivals ConvertMistake
+arrivals_given None = Ok Aligned
+arrivals_given (Some name) = arrivals_named name
 
 -- the words of a text that commas join, after a word so far
 unfoldable pub words_from : List ℕ → List ℕ → List (List ℕ)
@@ -65,6 +78,11 @@ quanta_from unit quanta (word ∷ words) = quantum_added unit quanta word >>= λ
 abbrev pub quanta_given : Unit → List ℕ → Result (List ℕ) ConvertMistake
 quanta_given unit text = quanta_from unit [] (words_from [] text)
 
+-- none where they are left out
+abbrev pub quantum_given : Unit → Option (List ℕ) → Result (List ℕ) ConvertMistake
+quantum_given unit None = Ok []
+quantum_given unit (Some text) = quanta_given unit text
+
 -- how long a switch takes; nothing where it is left out
 abbrev pub switch_read : Result ℕ TimeFault → Result ℕ ConvertMistake
 switch_read (Ok time) = Ok time
@@ -92,10 +110,10 @@ abbrev pub longer_than : Unit → Option ℕ → Result ℕ ConvertMistake
 longer_than unit None = Ok 0
 longer_than unit (Some quantum) = Err (SwitchNotBelow unit quantum)
 
--- a script of one quantum, and a table of several, where no format is named
+-- a table of several quanta, and else a script, where no format is named
 abbrev pub format_for : Option ConvertFormat → ℕ → Result ConvertFormat ConvertMistake
-format_for None count = if count == 1 then Ok Script else Ok Table
-format_for (Some Script) count = if count == 1 then Ok Script else Err SeveralQuanta
+format_for None count = if nat_lt 1 count then Ok Table else Ok Script
+format_for (Some Script) count = if nat_lt 1 count then Err SeveralQuanta else Ok Script
 format_for (Some Table) count = Ok Table
 format_for (Some Json) count = Ok Json
 
@@ -103,34 +121,41 @@ format_for (Some Json) count = Ok Json
 pub record ConvertTexts : Type 0 where
   pub format : Option (List ℕ)
   pub unit : Option (List ℕ)
-  pub quantum : List ℕ
+  pub quantum : Option (List ℕ)
   pub switch : Option (List ℕ)
   pub processors : Option (List ℕ)
+  pub arrivals : Option (List ℕ)
 
 abbrev pub texts_of : ConvertWords → ConvertTexts
 texts_of w = record {
   format = option_map (λ t. t.now) w.format;
   unit = option_map (λ t. t.now) w.unit;
-  quantum = w.quantum.now;
+  quantum = option_map (λ t. t.now) w.quantum;
   switch = option_map (λ t. t.now) w.switch;
   processors = option_map (λ t. t.now) w.processors;
+  arrivals = option_map (λ t. t.now) w.arrivals;
 }
 
--- the switch is below each quantum, which is up to a second long, there are 64 processors at most, and a script has one quantum
+-- the switch is below each quantum, which is up to a second long, there are 64 processors at most, and a script has one quantum at most
 pub record IsConversion (c : Conversion) : Type 0 where
   pub longer : All (λ q. c.switch < q) c.quanta
   pub short : All (λ q. q ≤ LONGEST_QUANTUM) c.quanta
   pub few : IfSome c.processors (λ m. m ≤ 64)
-  pub one : c.format ≡ Script → length c.quanta ≡ 1
+  pub one : c.format ≡ Script → length c.quanta ≤ 1
+
+-- the unit of times that carry none: milliseconds where it is left out
+abbrev pub counted_in : Option Unit → Unit
+counted_in given = unwrap_or given Millisecond
 
 -- what these texts ask for, or the first of them that is mistaken
 unfoldable pub conversion_of : ConvertTexts → Result Conversion ConvertMistake
 conversion_of t = do
   named ← format_given t.format
   unit ← unit_given t.unit
-  quanta ← quanta_given unit t.quantum
-  switch ← switch_given unit t.switch
+  quanta ← quantum_given (counted_in unit) t.quantum
+  switch ← switch_given (counted_in unit) t.switch
   processors ← processors_given t.processors
-  _ ← longer_than unit (first_not_above switch quanta)
+  arrivals ← arrivals_given t.arrivals
+  _ ← longer_than (counted_in unit) (first_not_above switch quanta)
   format ← format_for named (length quanta)
-  Ok (record { format = format; unit = unit; quanta = quanta; switch = switch; processors = processors })
+  Ok (record { format = format; unit = unit; quanta = quanta; switch = switch; processors = processors; arrivals = arrivals })

@@ -1,17 +1,20 @@
 ghost use Rattle.std.specs.Prelude.{◌≡◌, ◌++◌, All, OnOk};
 ghost use Rattle.pf_convert.specs.Slots.{IsSlotted};
-ghost use Rattle.pf_convert.specs.Conversion.Json.{comma, fault_item, fits_word, json_head, json_text, json_tail, no_plan_json, option_json, plan_head, plan_json, quantum_item, slots_item, task_item, truth};
+ghost use Rattle.pf_convert.specs.Conversion.Json.{arrivals_json, arrivals_word, best_json, comma, fault_item, fits_word, json_head, json_text, json_tail, no_plan_json, option_json, plan_head, plan_json, processors_json, quantum_item, slots_item, task_item, truth};
 ghost use Rattle.pf_convert.specs.Conversion.Planned.{HoldsPlan, HoldsTasks};
 ghost use Rattle.pf_convert.specs.Conversion.Script.{numbered};
 ghost use Rattle.pf_convert.specs.Conversion.Series.{HoldAll};
 
+use crate::conversion::list_file::ListFile;
+use crate::conversion::plan_faults::{fault_place, push_place, push_words};
 use crate::conversion::planned::Planned;
 use crate::conversion::table::Series;
-use crate::list::lines::Lines;
 use crate::list::listed::Listed;
 use crate::list::parts::{Part, push_parts};
 use crate::plan::Plan;
+use crate::plan_fault::PlanFault;
 use crate::slotted::Slotted;
+use crate::words::arrivals::Arrivals;
 use pf_scenario::settings::MOST_PROCESSORS;
 use std::alloc::AllocError;
 
@@ -24,16 +27,17 @@ use std::alloc::AllocError;
 #[tactic(auto, unfolding(crate::specs::Conversion::Json::json_text))]
 pub fn push_json(
     text: &mut Vec<u8>,
+    file: &ListFile<'_>,
     series: Series,
     switch: u64,
     tasks: &[Listed],
     all: &[Planned],
 ) -> Result<(), AllocError>
     requires { HoldAll all.now }
-    ensures { OnOk result (text.new.items ≡ text.old.items ++ json_text series switch tasks.now all.now) }
+    ensures { OnOk result (text.new.items ≡ text.old.items ++ json_text file.now series switch tasks.now all.now) }
 {
     push_head(text, series)?;
-    push_quanta(text, series.processors, all)?;
+    push_quanta(text, file, series, all)?;
     push_parts(
         text,
         &[
@@ -47,14 +51,56 @@ pub fn push_json(
 }
 
 /// Adds what comes before the quanta.
+#[tactic(auto, unfolding(crate::specs::Conversion::Json::json_head))]
 fn push_head(text: &mut Vec<u8>, series: Series) -> Result<(), AllocError>
     ensures { OnOk result (text.new.items ≡ text.old.items ++ json_head series) }
 {
-    push_parts(text, &[Part::Words("{\"best\":")])?;
-    push_option(text, series.best.map(|place| place as u64))?;
-    push_parts(text, &[Part::Words(",\"processors\":")])?;
-    push_option(text, series.processors)?;
+    push_arrivals(text, series.arrivals)?;
+    push_best(text, series.best)?;
+    push_processors(text, series.processors)
+}
+
+/// Adds when jobs arrive, and what comes before the best.
+#[tactic(auto, unfolding(crate::specs::Conversion::Json::arrivals_json))]
+fn push_arrivals(text: &mut Vec<u8>, arrivals: Arrivals) -> Result<(), AllocError>
+    ensures { OnOk result (text.new.items ≡ text.old.items ++ arrivals_json arrivals) }
+{
+    push_parts(
+        text,
+        &[
+            Part::Words("{\"arrivals\":\""),
+            Part::Words(arrivals_word(arrivals)),
+            Part::Words("\",\"best\":"),
+        ],
+    )
+}
+
+/// Adds the place of the best, and what comes after it.
+#[tactic(auto, unfolding(crate::specs::Conversion::Json::best_json))]
+fn push_best(text: &mut Vec<u8>, best: Option<usize>) -> Result<(), AllocError>
+    ensures { OnOk result (text.new.items ≡ text.old.items ++ best_json best) }
+{
+    push_option(text, best.map(|place| place as u64))?;
+    push_parts(text, &[Part::Words(",\"processors\":")])
+}
+
+/// Adds the processors, and what comes before the quanta.
+#[tactic(auto, unfolding(crate::specs::Conversion::Json::processors_json))]
+fn push_processors(text: &mut Vec<u8>, processors: Option<u64>) -> Result<(), AllocError>
+    ensures { OnOk result (text.new.items ≡ text.old.items ++ processors_json processors) }
+{
+    push_option(text, processors)?;
     push_parts(text, &[Part::Words(",\"quanta\":[")])
+}
+
+/// The word that asks for arrivals.
+fn arrivals_word(arrivals: Arrivals) -> &'static str
+    ensures { result.now ≡ arrivals_word arrivals }
+{
+    match arrivals {
+        Arrivals::Aligned => "aligned",
+        Arrivals::Any => "any",
+    }
 }
 
 /// Adds what comes after the tasks.
@@ -86,14 +132,15 @@ fn push_option(text: &mut Vec<u8>, number: Option<u64>) -> Result<(), AllocError
 /// Adds the quanta.
 fn push_quanta(
     text: &mut Vec<u8>,
-    processors: Option<u64>,
+    file: &ListFile<'_>,
+    series: Series,
     all: &[Planned],
 ) -> Result<(), AllocError>
     requires { HoldAll all.now }
-    ensures { OnOk result (text.new.items ≡ text.old.items ++ numbered (quantum_item processors) 0 all.now) }
+    ensures { OnOk result (text.new.items ≡ text.old.items ++ numbered (quantum_item file.now series) 0 all.now) }
 {
     for (place, planned) in all.iter().enumerate() {
-        push_quantum(text, processors, place, planned)?;
+        push_quantum(text, file, series, place, planned)?;
     }
     Ok(())
 }
@@ -108,19 +155,20 @@ fn comma(place: usize) -> &'static str
 /// Adds the quantum at a place.
 fn push_quantum(
     text: &mut Vec<u8>,
-    processors: Option<u64>,
+    file: &ListFile<'_>,
+    series: Series,
     place: usize,
     planned: &Planned,
 ) -> Result<(), AllocError>
     requires { HoldsPlan planned.now.plan }
-    ensures { OnOk result (text.new.items ≡ text.old.items ++ quantum_item processors place planned.now) }
+    ensures { OnOk result (text.new.items ≡ text.old.items ++ quantum_item file.now series place planned.now) }
 {
     let quantum = planned.quantum.length;
     let needed = planned.needed.unwrap_or(0);
     push_parts(text, &[Part::Words(comma(place))])?;
     match &planned.plan {
-        Some(plan) => push_plan(text, processors, quantum, needed, plan),
-        None => push_no_plan(text, quantum, &planned.faults),
+        Some(plan) => push_plan(text, series.processors, quantum, needed, plan),
+        None => push_no_plan(text, file, series.arrivals, quantum, &planned.faults),
     }
 }
 
@@ -191,14 +239,20 @@ fn fits_word(processors: Option<u64>, needed: u64) -> &'static str
 
 /// Adds a quantum without a plan.
 #[tactic(auto, unfolding(crate::specs::Conversion::Json::no_plan_json))]
-fn push_no_plan(text: &mut Vec<u8>, quantum: u64, faults: &Lines) -> Result<(), AllocError>
-    ensures { OnOk result (text.new.items ≡ text.old.items ++ no_plan_json quantum faults.now) }
+fn push_no_plan(
+    text: &mut Vec<u8>,
+    file: &ListFile<'_>,
+    arrivals: Arrivals,
+    quantum: u64,
+    faults: &[PlanFault],
+) -> Result<(), AllocError>
+    ensures { OnOk result (text.new.items ≡ text.old.items ++ no_plan_json file.now arrivals quantum faults.now) }
 {
     push_parts(
         text,
         &[Part::Words("{\"base\":null,\"exact\":null,\"faults\":[")],
     )?;
-    push_faults(text, faults)?;
+    push_faults(text, file, arrivals, quantum, faults)?;
     push_parts(
         text,
         &[
@@ -209,29 +263,37 @@ fn push_no_plan(text: &mut Vec<u8>, quantum: u64, faults: &Lines) -> Result<(), 
     )
 }
 
-/// Adds the lines of faults.
-fn push_faults(text: &mut Vec<u8>, faults: &Lines) -> Result<(), AllocError>
-    ensures { OnOk result (text.new.items ≡ text.old.items ++ numbered fault_item 0 faults.now) }
+/// Adds faults.
+fn push_faults(
+    text: &mut Vec<u8>,
+    file: &ListFile<'_>,
+    arrivals: Arrivals,
+    quantum: u64,
+    faults: &[PlanFault],
+) -> Result<(), AllocError>
+    ensures { OnOk result (text.new.items ≡ text.old.items ++ numbered (fault_item file.now arrivals quantum) 0 faults.now) }
 {
-    for place in 0..faults.len() {
-        push_fault(text, place, faults.line(place))?;
+    for (place, fault) in faults.iter().enumerate() {
+        push_fault(text, file, arrivals, quantum, place, *fault)?;
     }
     Ok(())
 }
 
-/// Adds the line of a fault at a place.
-fn push_fault(text: &mut Vec<u8>, place: usize, line: &[u8]) -> Result<(), AllocError>
-    ensures { OnOk result (text.new.items ≡ text.old.items ++ fault_item place line.now) }
+/// Adds the fault at a place.
+fn push_fault(
+    text: &mut Vec<u8>,
+    file: &ListFile<'_>,
+    arrivals: Arrivals,
+    quantum: u64,
+    place: usize,
+    fault: PlanFault,
+) -> Result<(), AllocError>
+    ensures { OnOk result (text.new.items ≡ text.old.items ++ fault_item file.now arrivals quantum place fault) }
 {
-    push_parts(
-        text,
-        &[
-            Part::Words(comma(place)),
-            Part::Words("\""),
-            Part::Bytes(line),
-            Part::Words("\""),
-        ],
-    )
+    push_parts(text, &[Part::Words(comma(place)), Part::Words("\"")])?;
+    push_place(text, file.text, fault_place(file.heading, fault))?;
+    push_words(text, file.unit, arrivals, quantum, fault)?;
+    push_parts(text, &[Part::Words("\"")])
 }
 
 /// Adds tasks in slots.
@@ -294,9 +356,13 @@ fn push_task(text: &mut Vec<u8>, place: usize, task: &Listed) -> Result<(), Allo
 {
     push_parts(
         text,
+        &[Part::Words(comma(place)), Part::Words("{\"deadline\":")],
+    )?;
+    push_option(text, task.times.deadline)?;
+    push_parts(
+        text,
         &[
-            Part::Words(comma(place)),
-            Part::Words("{\"early\":"),
+            Part::Words(",\"early\":"),
             Part::Number(task.times.early),
             Part::Words(",\"every\":"),
             Part::Number(task.times.every),

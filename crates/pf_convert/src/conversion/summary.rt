@@ -1,4 +1,4 @@
-ghost use Rattle.std.specs.Prelude.{◌≡◌, ◌≤◌, ◌++◌, OnOk};
+ghost use Rattle.std.specs.Prelude.{◌≡◌, ◌≤◌, ◌*◌, ◌++◌, OnOk};
 ghost use Rattle.pf_convert.specs.declared.plan.Plan.{Plan};
 ghost use Rattle.pf_weight.specs.declared.base.TheConstants.{LARGEST_BASE};
 ghost use Rattle.pf_convert.specs.Conversion.Planned.{HoldsTasks};
@@ -7,11 +7,9 @@ ghost use Rattle.pf_convert.specs.Conversion.Summary.{base_line, load_line, room
 use crate::conversion::report::PLACES;
 use crate::list::parts::{Part, push_parts};
 use crate::plan::Plan;
-use pf_text::columns::decimals::push_up;
+use crate::work::BILLION;
+use pf_text::columns::decimals::{push_cut, push_up};
 use std::alloc::AllocError;
-
-/// Billionths in a whole.
-pub const BILLION: u128 = 1_000_000_000;
 
 /// Adds the two lines below the table: the base, and the load beside the room of so many processors. The work is told in
 /// billionths of a processor.
@@ -32,7 +30,7 @@ pub fn push_summary(
 {
     push_base(text, plan.base, plan.exact)?;
     push_load(text, processors, plan.base, plan.load, work)?;
-    push_room(text, plan.load, processors * plan.base)
+    push_room(text, plan.base, plan.load, processors * plan.base)
 }
 
 /// Adds the line of the base.
@@ -70,7 +68,6 @@ fn push_load(
 ) -> Result<(), AllocError>
     requires some { 1 ≤ base }
     requires within { base ≤ LARGEST_BASE }
-    requires processors { processors ≤ 64 }
     ensures { OnOk result (text.new.items ≡ text.old.items ++ load_line processors base load work) }
 {
     push_parts(text, &[Part::Words("work ")])?;
@@ -82,31 +79,23 @@ fn push_load(
         &[
             Part::Words(" of "),
             Part::Number(processors),
-            Part::Words(" processors ("),
-            Part::Number(load),
-            Part::Words(" of "),
-            Part::Number(processors * base),
-            Part::Words(" units), "),
+            Part::Words(" processors, "),
         ],
     )
 }
 
-/// Adds what is free, or by how much it is too much.
-fn push_room(text: &mut Vec<u8>, load: u64, room: u64) -> Result<(), AllocError>
-    ensures { OnOk result (text.new.items ≡ text.old.items ++ room_text load room) }
+/// Adds which part of a processor is free, or by how much it is too much.
+fn push_room(text: &mut Vec<u8>, base: u64, load: u64, room: u64) -> Result<(), AllocError>
+    requires some { 1 ≤ base }
+    requires within { base ≤ LARGEST_BASE }
+    requires room { room ≤ 64 * LARGEST_BASE }
+    ensures { OnOk result (text.new.items ≡ text.old.items ++ room_text base load room) }
 {
     if load <= room {
-        push_parts(
-            text,
-            &[Part::Number(room - load), Part::Words(" free: fits\n")],
-        )
+        push_cut(text, (room - load) as i64, base, PLACES)?;
+        text.extend_from_slice(b" free: fits\n")
     } else {
-        push_parts(
-            text,
-            &[
-                Part::Number(load - room),
-                Part::Words(" too many: does not fit\n"),
-            ],
-        )
+        push_up(text, u128::from(load - room), u128::from(base), PLACES)?;
+        text.extend_from_slice(b" too much: does not fit\n")
     }
 }

@@ -1,26 +1,28 @@
-ghost use Rattle.std.specs.Prelude.{◌≡◌, ◌≤◌, ◌<◌, ◌/◌, ◌^◌, ◌++◌, OnOk, IfOk, length};
+ghost use Rattle.std.specs.Prelude.{◌≡◌, ◌≤◌, ◌<◌, ◌/◌, ◌^◌, ◌++◌, OnOk};
 ghost use Rattle.pf_text.specs.Columns.Decimals.{up};
 ghost use Rattle.pf_convert.specs.Conversion.Planned.{HoldsPlan, HoldsTasks};
 ghost use Rattle.pf_convert.specs.Conversion.Script.{numbered};
 ghost use Rattle.pf_convert.specs.Conversion.Series.{HoldAll};
-ghost use Rattle.pf_convert.specs.Conversion.Table.{best_word, fits_word, no_plan_line, note_line, notes_of, notes_in, periods_word, plan_line, quantum_line, series_text};
+ghost use Rattle.pf_convert.specs.Conversion.Table.{best_word, fits_word, no_plan_line, periods_word, plan_line, quantum_line, series_text};
 
 use crate::conversion::planned::Planned;
 use crate::conversion::report::PLACES;
-use crate::conversion::summary::BILLION;
-use crate::list::lines::Lines;
 use crate::list::parts::{Part, push_parts};
 use crate::plan::Plan;
+use crate::words::arrivals::Arrivals;
+use crate::work::BILLION;
 use pf_scenario::settings::MOST_PROCESSORS;
 use pf_text::columns::decimals::push_up;
 use pf_vocabulary::names::unit::Unit;
-use std::alloc::{AllocError, Global};
+use std::alloc::AllocError;
 
 /// What the lines of several quanta are told by.
 #[derive(Clone, Copy)]
 pub struct Series {
     /// The unit of times.
     pub unit: Unit,
+    /// When the jobs of a task arrive.
+    pub arrivals: Arrivals,
     /// The processors, where they are given.
     pub processors: Option<u64>,
     /// The work of the tasks, in billionths of a processor.
@@ -150,76 +152,4 @@ fn best_word(best: Option<usize>, place: usize) -> &'static str
         Some(other) if other == place => "best\n",
         _ => "\n",
     }
-}
-
-/// A line for each quantum that has no plan: its first fault, and how many more it has.
-///
-/// # Errors
-///
-/// Where memory is refused.
-pub fn notes_in(alloc: Global, unit: Unit, all: &[Planned]) -> Result<Lines, AllocError>
-    ensures { IfOk result (λ notes. notes ≡ notes_in unit all.now) }
-{
-    let mut notes = Lines::new(alloc);
-    for planned in all {
-        push_note(alloc, &mut notes, unit, planned)?;
-    }
-    Ok(notes)
-}
-
-/// Adds the line of a quantum, where it has no plan.
-fn push_note(
-    alloc: Global,
-    notes: &mut Lines,
-    unit: Unit,
-    planned: &Planned,
-) -> Result<(), AllocError>
-    ensures { OnOk result (notes.new ≡ notes.old ++ notes_of unit planned.now.quantum.length planned.now.faults) }
-{
-    let count = planned.faults.len();
-    if count == 0 {
-        return Ok(());
-    }
-    let line = note_line(
-        alloc,
-        unit,
-        planned.quantum.length,
-        planned.faults.line(0),
-        count - 1,
-    )?;
-    notes.push(line)
-}
-
-/// The line of a quantum with this first fault, and so many more.
-fn note_line(
-    alloc: Global,
-    unit: Unit,
-    quantum: u64,
-    first: &[u8],
-    more: usize,
-) -> Result<Vec<u8>, AllocError>
-    ensures { IfOk result (λ line. line.items ≡ note_line unit quantum first.now more) }
-{
-    let length = u128::from(quantum);
-    let mut line = Vec::new(alloc);
-    push_parts(
-        &mut line,
-        &[
-            Part::Words("quantum "),
-            Part::Time(unit, length),
-            Part::Words(": "),
-            Part::Bytes(first),
-        ],
-    )?;
-    if more > 0 {
-        push_parts(
-            &mut line,
-            &[
-                Part::Words(", and "),
-                Part::Number(more as u64),
-                Part::Words(" more"),
-            ],
-        )?;
-    }
-    Ok(line)
 }

@@ -1,10 +1,11 @@
-ghost use Rattle.std.specs.Prelude.{◌≡◌, [], slice_index_or};
+ghost use Rattle.std.specs.Prelude.{◌≡◌, ◌++◌, [], OnOk, slice_index_or};
 ghost use Rattle.csv.specs.Records.{fields_of};
-ghost use Rattle.pf_convert.specs.List.Heading.{at_heading_fault};
+ghost use Rattle.pf_convert.specs.List.Heading.{field_number, joined_names};
 
 use crate::list::column::Column;
 use crate::list::fault::HeadingFault;
 use csv::ByteRecord;
+use std::alloc::AllocError;
 
 /// The heading of a list: at which place, counted from 0, each column is.
 #[derive(Clone, Copy)]
@@ -14,6 +15,7 @@ pub struct Heading {
     pub name: Option<usize>,
     pub work: Option<usize>,
     pub every: Option<usize>,
+    pub deadline: Option<usize>,
     pub first: Option<usize>,
     pub early: Option<usize>,
 }
@@ -21,7 +23,22 @@ pub struct Heading {
 impl Heading {
     ghost use Rattle.std.specs.Prelude.{◌≡◌, ◌<◌, ◌-◌, ◌^◌};
     ghost use Rattle.csv.specs.Records.{fields_of};
-    ghost use Rattle.pf_convert.specs.List.Heading.{field_given, field_in, heading_in, needed_in, no_columns, place_of, with_column};
+    ghost use Rattle.pf_convert.specs.List.Heading.{field_given, field_in, heading_in, needed_in, no_columns, number_of, place_of, with_column};
+
+    /// No columns.
+    pub fn new() -> Heading
+        ensures { result ≡ no_columns }
+    {
+        Heading {
+            count: 0,
+            name: None,
+            work: None,
+            every: None,
+            deadline: None,
+            first: None,
+            early: None,
+        }
+    }
 
     /// The heading that a row is.
     ///
@@ -31,18 +48,11 @@ impl Heading {
     pub fn read(row: &ByteRecord) -> Result<Heading, HeadingFault>
         ensures { result ≡ heading_in (fields_of row.now) }
     {
-        let mut heading = Heading {
-            count: 0,
-            name: None,
-            work: None,
-            every: None,
-            first: None,
-            early: None,
-        };
+        let mut heading = Heading::new();
         for place in 0..row.len() {
             heading = heading.with_field(field_of(row, place), place)?;
         }
-        heading.complete()
+        heading.complete(field_number(row.len()))
     }
 
     /// The heading with a further field, at this place.
@@ -58,7 +68,7 @@ impl Heading {
             return Err(HeadingFault::NoColumn(place + 1));
         };
         if self.place(column).is_some() {
-            return Err(HeadingFault::Twice(place + 1));
+            return Err(HeadingFault::Twice(place + 1, column));
         }
         Ok(self.with(column, place))
     }
@@ -86,6 +96,11 @@ impl Heading {
                 every: place,
                 ..self
             },
+            Column::Deadline => Heading {
+                count,
+                deadline: place,
+                ..self
+            },
             Column::First => Heading {
                 count,
                 first: place,
@@ -99,37 +114,45 @@ impl Heading {
         }
     }
 
-    /// The heading, where no column is missing.
+    /// The heading, where no column is missing. A further field would have this number.
     ///
     /// # Errors
     ///
     /// The first column that is.
-    fn complete(self) -> Result<Heading, HeadingFault>
-        ensures { result ≡ needed_in self }
+    fn complete(self, next: usize) -> Result<Heading, HeadingFault>
+        ensures { result ≡ needed_in next self }
     {
         if self.name.is_none() {
-            return Err(HeadingFault::Missing(Column::Name));
+            return Err(HeadingFault::Missing(next, Column::Name));
         }
         if self.work.is_none() {
-            return Err(HeadingFault::Missing(Column::Work));
+            return Err(HeadingFault::Missing(next, Column::Work));
         }
         if self.every.is_none() {
-            return Err(HeadingFault::Missing(Column::Every));
+            return Err(HeadingFault::Missing(next, Column::Every));
         }
         Ok(self)
     }
 
     /// The place of a column, if it is there.
-    fn place(self, column: Column) -> Option<usize>
+    pub fn place(self, column: Column) -> Option<usize>
         ensures { result ≡ place_of column self }
     {
         match column {
             Column::Name => self.name,
             Column::Work => self.work,
             Column::Every => self.every,
+            Column::Deadline => self.deadline,
             Column::First => self.first,
             Column::Early => self.early,
         }
+    }
+
+    /// The number of a column's field, counted from 1; that after the last where the heading lacks it.
+    pub fn number(&self, column: Column) -> usize
+        ensures { result ≡ number_of column self.now }
+    {
+        field_number(self.place(column).unwrap_or(self.count))
     }
 
     /// The field of a column in a row, without a byte where the heading lacks it.
@@ -143,8 +166,15 @@ impl Heading {
     }
 }
 
+/// The number of the field at a place: fields are counted from 1.
+pub fn field_number(place: usize) -> usize
+    ensures { result ≡ field_number place }
+{
+    place.saturating_add(1)
+}
+
 /// The field at a place of a row, without a byte where there is none.
-fn field_of(row: &ByteRecord, place: usize) -> &[u8]
+pub fn field_of(row: &ByteRecord, place: usize) -> &[u8]
     ensures { result.now ≡ slice_index_or (fields_of row.now) place [] }
 {
     match row.get(place) {
@@ -153,13 +183,18 @@ fn field_of(row: &ByteRecord, place: usize) -> &[u8]
     }
 }
 
-/// The field of a row that is at fault.
-pub fn at_heading_fault(row: &ByteRecord, fault: HeadingFault) -> &[u8]
-    ensures { result.now ≡ at_heading_fault (fields_of row.now) fault }
+/// Adds the fields of a heading, joined by commas.
+///
+/// # Errors
+///
+/// Where memory is refused: a front of them was added.
+pub fn push_names(text: &mut Vec<u8>, names: &ByteRecord) -> Result<(), AllocError>
+    ensures { OnOk result (text.new.items ≡ text.old.items ++ joined_names (fields_of names.now)) }
 {
-    match fault {
-        HeadingFault::NoColumn(place) => field_of(row, place.saturating_sub(1)),
-        HeadingFault::Twice(place) => field_of(row, place.saturating_sub(1)),
-        HeadingFault::Missing(_) => &[],
+    text.extend_from_slice(field_of(names, 0))?;
+    for place in 1..names.len() {
+        text.extend_from_slice(b",")?;
+        text.extend_from_slice(field_of(names, place))?;
     }
+    Ok(())
 }

@@ -1,5 +1,6 @@
 use crate::timed::Timed;
 use pf_vocabulary::names::name::Name;
+use pf_vocabulary::names::unit::Unit;
 
 /// A task of a list.
 #[derive(Drop)]
@@ -10,4 +11,6 @@ pub struct Listed {
     pub name: Name,
     /// Its times.
     pub times: Timed,
+    /// The unit that its `every` carries, if it does.
+    pub unit: Option<Unit>,
 }

@@ -2,10 +2,11 @@ ghost use Rattle.std.specs.Prelude.{◌≡◌, ◌≤◌, ◌<◌, ◌^◌, All,
 ghost use Rattle.pf_convert.specs.declared.quantum.TheConstants.{LONGEST_QUANTUM};
 ghost use Rattle.pf_convert.specs.declared.timed.TheConstants.{TIME_LIMIT};
 ghost use Rattle.pf_convert.specs.declared.words.conversion.ConvertFormat.TheVariants.{Script};
-ghost use Rattle.pf_convert.specs.Words.Reading.{IsConversion, conversion_of, first_not_above, format_for, format_given, processors_given, quanta_from, quanta_given, quantum_added, switch_given, texts_of, unit_given, words_from};
+ghost use Rattle.pf_convert.specs.Words.Reading.{IsConversion, arrivals_given, conversion_of, first_not_above, format_for, format_given, processors_given, quanta_from, quanta_given, quantum_added, quantum_given, switch_given, texts_of, unit_given, words_from};
 
 use crate::list::time::{parse_digits, parse_time};
 use crate::quantum::LONGEST_QUANTUM;
+use crate::words::arrivals::Arrivals;
 use crate::words::conversion::{Conversion, ConvertFormat};
 use crate::words::mistake::ConvertMistake;
 use crate::words::quanta::{MOST_QUANTA, Quanta};
@@ -17,9 +18,10 @@ use pf_vocabulary::names::unit::Unit;
 pub struct ConvertWords<'a> {
     pub format: Option<&'a [u8]>,
     pub unit: Option<&'a [u8]>,
-    pub quantum: &'a [u8],
+    pub quantum: Option<&'a [u8]>,
     pub switch: Option<&'a [u8]>,
     pub processors: Option<&'a [u8]>,
+    pub arrivals: Option<&'a [u8]>,
 }
 
 /// The format of this name, where there is one.
@@ -41,16 +43,33 @@ fn read_format(name: Option<&[u8]>) -> Result<Option<ConvertFormat>, ConvertMist
     }
 }
 
-/// The unit of this name; milliseconds where there is none.
-fn read_unit(name: Option<&[u8]>) -> Result<Unit, ConvertMistake>
+/// The unit of this name, where there is one.
+fn read_unit(name: Option<&[u8]>) -> Result<Option<Unit>, ConvertMistake>
     ensures { result ≡ unit_given (option_map (λ n. n.now) name.entry) }
 {
     let Some(name) = name else {
-        return Ok(Unit::Millisecond);
+        return Ok(None);
     };
     match Unit::named(name) {
-        Some(unit) => Ok(unit),
+        Some(unit) => Ok(Some(unit)),
         None => Err(ConvertMistake::Unit),
+    }
+}
+
+/// When jobs arrive; as slots begin where it is left out.
+#[tactic(auto, unfolding(crate::specs::Words::Reading::arrivals_named))]
+fn read_arrivals(name: Option<&[u8]>) -> Result<Arrivals, ConvertMistake>
+    ensures { result ≡ arrivals_given (option_map (λ n. n.now) name.entry) }
+{
+    let Some(name) = name else {
+        return Ok(Arrivals::Aligned);
+    };
+    if name == b"aligned".as_slice() {
+        Ok(Arrivals::Aligned)
+    } else if name == b"any".as_slice() {
+        Ok(Arrivals::Any)
+    } else {
+        Err(ConvertMistake::Arrivals)
     }
 }
 
@@ -78,6 +97,17 @@ fn read_processors(text: Option<&[u8]>) -> Result<Option<u64>, ConvertMistake>
     match parse_digits(text) {
         Some(number) if number >= 1 && number <= MOST_PROCESSORS => Ok(Some(number)),
         _ => Err(ConvertMistake::Processors),
+    }
+}
+
+/// The quanta of this text; none where it is left out.
+fn read_quantum(unit: Unit, text: Option<&[u8]>) -> Result<Quanta, ConvertMistake>
+    ensures value { result ≡ quantum_given unit (option_map (λ t. t.now) text.entry) }
+    ensures short { IfOk result (λ quanta. All (λ q. q ≤ LONGEST_QUANTUM) quanta) }
+{
+    match text {
+        Some(text) => read_quanta(unit, text),
+        None => Ok(Quanta::new()),
     }
 }
 
@@ -130,16 +160,16 @@ fn first_not_above(switch: u64, quanta: &[u64]) -> Option<u64>
     None
 }
 
-/// The format, a script for one quantum and a table for several where none is named.
+/// The format, a table for several quanta and else a script where none is named.
 fn format_for(named: Option<ConvertFormat>, quanta: &[u64]) -> Result<ConvertFormat, ConvertMistake>
     ensures value { result ≡ format_for named (length quanta.now) }
-    ensures one { IfOk result (λ format. format ≡ Script → length quanta.now ≡ 1) }
+    ensures one { IfOk result (λ format. format ≡ Script → length quanta.now ≤ 1) }
 {
     match named {
-        Some(ConvertFormat::Script) if quanta.len() != 1 => Err(ConvertMistake::SeveralQuanta),
+        Some(ConvertFormat::Script) if quanta.len() > 1 => Err(ConvertMistake::SeveralQuanta),
         Some(format) => Ok(format),
-        None if quanta.len() == 1 => Ok(ConvertFormat::Script),
-        None => Ok(ConvertFormat::Table),
+        None if quanta.len() > 1 => Ok(ConvertFormat::Table),
+        None => Ok(ConvertFormat::Script),
     }
 }
 
@@ -155,11 +185,13 @@ pub fn read_conversion(words: &ConvertWords<'_>) -> Result<Conversion, ConvertMi
 {
     let format = read_format(words.format)?;
     let unit = read_unit(words.unit)?;
-    let quanta = read_quanta(unit, words.quantum)?;
-    let switch = read_switch(unit, words.switch)?;
+    let counted = unit.unwrap_or(Unit::Millisecond);
+    let quanta = read_quantum(counted, words.quantum)?;
+    let switch = read_switch(counted, words.switch)?;
     let processors = read_processors(words.processors)?;
+    let arrivals = read_arrivals(words.arrivals)?;
     if let Some(quantum) = first_not_above(switch, quanta.all()) {
-        return Err(ConvertMistake::SwitchNotBelow(unit, quantum));
+        return Err(ConvertMistake::SwitchNotBelow(counted, quantum));
     }
     let format = format_for(format, quanta.all())?;
     Ok(Conversion {
@@ -168,5 +200,6 @@ pub fn read_conversion(words: &ConvertWords<'_>) -> Result<Conversion, ConvertMi
         quanta,
         switch,
         processors,
+        arrivals,
     })
 }

@@ -55,14 +55,15 @@ one_of v load room both = by (nat_le load room) refl
     by false above = failed v (λ done. let le : load ≤ room = both.0 done in grind (arith, nat_tests, above, le))
 
 pub convert_and_fit_agree : ScriptsAreRetold → ConvertAndFitAgree
-convert_and_fit_agree law unit q processors list a is some made =
-    elim (lists_become_plans unit q processors list a is some made) [
+convert_and_fit_agree law name c list a is some script made =
+    elim (lists_become_plans name c list a is some script made) [
       | inl none ↦ inl none
-      | inr w ↦ inr (alike q.length _ w)
+      | inr w ↦ inr (alike _ w)
     ]
   where
-    alike : (quantum : ℕ) (tasks : List Listed) → WritesPlan quantum tasks a → IsFitAlike a
-    alike quantum tasks w =
+    alike : (tasks : List Listed) → WritesPlan c.quanta tasks a → IsFitAlike a
+    alike tasks w =
+        let quantum = w.quantum in
         let m = w.processors in
         let plan = w.plan in
         let text = script_text m quantum tasks plan in

@@ -1,41 +1,52 @@
 -- The plans of tasks that a list tells.
 use Rattle.std.proofs.Common.{◌≡◌, ◌∙◌, ◌-◌, ◌*◌, ◌<◌, ◌≤◌, ◌/◌, ◌%◌, ◌==◌, ℕ, zero, suc, Bool, true, false, nat_le, nat_lt, Option, None, Some, Result, Ok, Err, List, [], ◌∷◌, All, length, map, get_or, inl, inr, arith, refl, sum_by, sym, ap, subst, subst₂}
-use Rattle.std.specs.Prelude.{◌⊎◌}
+use Rattle.std.specs.Prelude.{◌⊎◌, MatchOption, slice_index}
 use Rattle.std.specs.Bool.{MatchBool}
 use Rattle.std.specs.Int.{div_ceil}
 use Rattle.std.proofs.lemmas.Bool.Decides.{nat_tests}
 use Rattle.std.proofs.lemmas.Grind.{div_ceil_times}
-use Rattle.std.proofs.lemmas.List.{length-append}
+use Rattle.std.proofs.lemmas.List.{length-append, length-map}
 use Rattle.std.proofs.lemmas.List.Sums.{sum_by-cons}
 use Rattle.std.proofs.lemmas.List.Elements.{All-append, All-cons, All-head, All-map, All-nil, All-tail}
 use Rattle.pf_convert.specs.declared.plan.Plan.{Plan}
 use Rattle.pf_convert.specs.declared.quantum.Quantum.{Quantum}
 use Rattle.pf_convert.specs.declared.slot_fault.SlotFault.{SlotFault}
-use Rattle.pf_convert.specs.declared.slot_fault.SlotFault.TheVariants.{CostAbovePeriod, EveryBelowQuantum, JoinBeyondHorizon, TooEarly}
+use Rattle.pf_convert.specs.declared.slot_fault.SlotFault.TheVariants.{BeforeArrival, CostAbovePeriod, DueTooSoon, JoinBeyondHorizon, TooEarly}
 use Rattle.pf_convert.specs.declared.slotted.Slotted.{Slotted}
 use Rattle.pf_convert.specs.declared.timed.Timed.{Timed}
 use Rattle.pf_convert.specs.Plans.{IsExact, IsNeeded, IsOver, IsRounded, rounded_task}
 use Rattle.pf_convert.specs.Rounding.{load_over, rounded}
-use Rattle.pf_convert.specs.Slots.{IsQuantum, IsSlotted, slots_of, slots_or_fault}
+use Rattle.pf_convert.specs.Slots.{IsQuantum, IsSlotted, runs_before_arrival, slots_of, slots_or_fault}
 use Rattle.pf_convert.proofs.Division.{multiple_is_no_less}
 use Rattle.pf_convert.proofs.Dividing.{rounded_is}
 use Rattle.pf_scenario.specs.declared.limits.TheConstants.{MOST_EARLY}
 use Rattle.pf_scenario.specs.declared.settings.TheConstants.{WIDE_HORIZON}
 use Rattle.pf_vocabulary.specs.declared.fault.answer.Answer.{Answer}
 use Rattle.pf_vocabulary.specs.declared.names.unit.Unit.{Unit}
-use Rattle.pf_text.specs.Rows.Rows.{rows}
 use Rattle.pf_weight.specs.declared.base.TheConstants.{LARGEST_BASE}
 use Rattle.pf_weight.specs.declared.task.TheConstants.{LARGEST_TASK}
 use Rattle.pf_convert.specs.declared.list.listed.Listed.{Listed}
-use Rattle.pf_convert.specs.List.List.{list_told}
+use Rattle.pf_convert.specs.List.List.{ListTold, list_told}
 use Rattle.pf_convert.specs.declared.conversion.planned.Planned.{Planned}
-use Rattle.pf_convert.specs.Conversion.Answers.{IsPlanAnswer, IsTold, OnProcessors, ScriptFor, ScriptTold, too_many_text}
+use Rattle.pf_convert.specs.Conversion.Answers.{IsPlanAnswer, IsScriptAnswer, IsTold, OnProcessors, ScriptFor, ScriptShown, too_many_text, tried_line, tried_of}
+use Rattle.pf_convert.specs.Conversion.Conversions.{AnswersList, IsAnswerIn, terms_of}
+use Rattle.pf_convert.specs.Conversion.Series.{outcome_of, quantum_of}
+use Rattle.pf_convert.specs.Outcomes.{IsShownQuantum}
+use Rattle.pf_convert.specs.Words.Reading.{IsConversion}
+use Rattle.pf_convert.specs.declared.conversion.list_file.ListFile.{ListFile}
+use Rattle.pf_convert.specs.declared.plan_fault.PlanFault.{PlanFault}
+use Rattle.pf_convert.specs.declared.terms.Terms.{Terms}
+use Rattle.pf_convert.specs.declared.words.arrivals.Arrivals.{Arrivals}
+use Rattle.pf_convert.specs.declared.words.conversion.Conversion.{Conversion}
+use Rattle.pf_convert.specs.declared.words.conversion.ConvertFormat.TheVariants.{Script}
+use Rattle.pf_convert.specs.List.Messages.{Told}
 use Rattle.pf_convert.specs.Conversion.Planned.{IsPlanned, IsPlannedAt, IsPlannedWith, NeedsFor}
-use Rattle.pf_convert.specs.Conversion.Slots.{slot_faults, slots_in, slots_told}
+use Rattle.pf_convert.specs.Conversion.Slots.{slot_faults, slots_given, slots_in}
 use Rattle.pf_convert.proofs.ConversionLemmas.Bases.{smooth_some}
 use Rattle.pf_script_laws.specs.Conversions.Read.{IsWritten}
 use Rattle.pf_script_laws.specs.Conversions.Written.{AreSome, IsMeasured, ListsBecomePlans, WritesNothing, WritesPlan}
-use Rattle.pf_script_laws.proofs.ConversionsLemmas.Told.{AreTold, list_is_told, unless_ok}
+use Rattle.pf_script_laws.proofs.ConversionsLemmas.Told.{AreTold, IsFewTold, list_is_told, unless_ok}
+use Rattle.pf_script_laws.proofs.ConversionsLemmas.Tried.{ArePlannedIn, planned_in}
 
 -- the slots of a task, but for the limit of its period, which is the base's
 pub record IsInSlots (s : Slotted) : Type 0 where
@@ -44,8 +55,8 @@ pub record IsInSlots (s : Slotted) : Type 0 where
   pub join : s.join < WIDE_HORIZON
   pub early : s.early ≤ MOST_EARLY
 
-some_cost : (q : Quantum) (t : Timed) → IsQuantum q → 1 ≤ t.work → 1 ≤ (slots_of q t).cost
-some_cost q t is works =
+some_cost : (q : Quantum) (arrivals : Arrivals) (t : Timed) → IsQuantum q → 1 ≤ t.work → 1 ≤ (slots_of q arrivals t).cost
+some_cost q arrivals t is works =
     let part : ℕ = q.length - q.switch in
     let some : 1 ≤ part = omega (arith, is.switch) in
     by (div_ceil t.work part) (div_ceil_times t.work part some).0
@@ -54,41 +65,42 @@ some_cost q t is works =
     by zero covers = absurd (omega (arith, covers, works))
     by (suc c) covers = omega arith
 
-in_slots : (q : Quantum) (t : Timed) (s : Slotted) → IsQuantum q → 1 ≤ t.work → slots_or_fault q t ≡ Ok s → IsInSlots s
-in_slots q t s is works e =
-    let v : Slotted = slots_of q t in
-    let first = unless_ok (v.period == 0) _ EveryBelowQuantum s e in
+in_slots : (q : Quantum) (arrivals : Arrivals) (t : Timed) (s : Slotted) → IsQuantum q → 1 ≤ t.work → slots_or_fault q arrivals t ≡ Ok s → IsInSlots s
+in_slots q arrivals t s is works e =
+    let v : Slotted = slots_of q arrivals t in
+    let first = unless_ok (v.period == 0) _ DueTooSoon s e in
     let second = unless_ok (nat_lt v.period v.cost) _ (CostAbovePeriod v.cost v.period) s first.1 in
     let third = unless_ok (nat_le WIDE_HORIZON v.join) _ (JoinBeyondHorizon v.join) s second.1 in
-    let fourth = unless_ok (nat_lt MOST_EARLY v.early) (Ok v) (TooEarly v.early) s third.1 in
-    let same : v ≡ s = let all = fourth.1 in cc in
+    let fourth = unless_ok (nat_lt MOST_EARLY v.early) _ (TooEarly v.early) s third.1 in
+    let fifth = unless_ok (runs_before_arrival arrivals v.early) (Ok v) BeforeArrival s fourth.1 in
+    let same : v ≡ s = let all = fifth.1 in cc in
     let below = second.0 in
     let join = third.0 in
     let early = fourth.0 in
     subst IsInSlots same (record {
-      some = some_cost q t is works;
+      some = some_cost q arrivals t is works;
       within = grind (arith, nat_tests, below);
       join = grind (arith, nat_tests, join);
       early = grind (arith, nat_tests, early);
     })
 
 -- the tasks that have slots
-slots_all : (q : Quantum) (tasks : List Listed) → IsQuantum q → All (λ t. 1 ≤ t.times.work) tasks → All IsInSlots (slots_in q tasks)
-slots_all q [] is works = All-nil IsInSlots
-slots_all q (t ∷ ts) is works =
-    All-append IsInSlots (slots_told (slots_or_fault q t.times)) (slots_in q ts) (by (slots_or_fault q t.times) refl)
-    (slots_all q ts is (All-tail (λ u. 1 ≤ u.times.work) t ts works))
+slots_all : (q : Quantum) (arrivals : Arrivals) (tasks : List Listed) → IsQuantum q → All (λ t. 1 ≤ t.times.work) tasks → All IsInSlots (slots_in q arrivals tasks)
+slots_all q arrivals [] is works = All-nil IsInSlots
+slots_all q arrivals (t ∷ ts) is works =
+    All-append IsInSlots (slots_given (slots_or_fault q arrivals t.times)) (slots_in q arrivals ts) (by (slots_or_fault q arrivals t.times) refl)
+    (slots_all q arrivals ts is (All-tail (λ u. 1 ≤ u.times.work) t ts works))
   where
-    by : (r : Result Slotted SlotFault) → slots_or_fault q t.times ≡ r → All IsInSlots (slots_told r)
-    by (Ok s) e = All-cons IsInSlots s [] (in_slots q t.times s is (All-head (λ u. 1 ≤ u.times.work) t ts works) e) (All-nil IsInSlots)
+    by : (r : Result Slotted SlotFault) → slots_or_fault q arrivals t.times ≡ r → All IsInSlots (slots_given r)
+    by (Ok s) e = All-cons IsInSlots s [] (in_slots q arrivals t.times s is (All-head (λ u. 1 ≤ u.times.work) t ts works) e) (All-nil IsInSlots)
     by (Err fault) e = All-nil IsInSlots
 
-slots_few : (q : Quantum) (tasks : List Listed) → length (slots_in q tasks) ≤ length tasks
-slots_few q [] = omega arith
-slots_few q (t ∷ ts) =
-    omega (arith, length-append (slots_told (slots_or_fault q t.times)) (slots_in q ts), one (slots_or_fault q t.times), slots_few q ts)
+slots_few : (q : Quantum) (arrivals : Arrivals) (tasks : List Listed) → length (slots_in q arrivals tasks) ≤ length tasks
+slots_few q arrivals [] = omega arith
+slots_few q arrivals (t ∷ ts) =
+    omega (arith, length-append (slots_given (slots_or_fault q arrivals t.times)) (slots_in q arrivals ts), one (slots_or_fault q arrivals t.times), slots_few q arrivals ts)
   where
-    one : (r : Result Slotted SlotFault) → length (slots_told r) ≤ 1
+    one : (r : Result Slotted SlotFault) → length (slots_given r) ≤ 1
     one (Ok s) = omega arith
     one (Err fault) = omega arith
 
@@ -185,20 +197,23 @@ pub record Plans (q : Quantum) (slots : List Slotted) (plan : Plan) (needed : �
   pub planned : IsPlanned slots (Some plan)
   pub needs : IsNeeded plan.base plan.load needed
 
-plans_of : (q : Quantum) (slots : List Slotted) (lines : List (List ℕ)) (plan : Plan) (needed : ℕ) (p : Planned) → IsPlannedWith q slots lines p
+plans_of : (q : Quantum) (slots : List Slotted) (faults : List PlanFault) (plan : Plan) (needed : ℕ) (p : Planned) → IsPlannedWith q slots faults p
     → p.plan ≡ Some plan → p.needed ≡ Some needed → Plans q slots plan needed p
 plans_of q slots [] plan needed p is e f = record {
   quantum = is.quantum;
   planned = subst (IsPlanned slots) e is.planned;
   needs = subst₂ NeedsFor e f is.needs;
 }
-plans_of q slots (line ∷ lines) plan needed p is e f = let none = is.planned in let bad : Some plan ≡ None = sym e ∙ none in cc
+plans_of q slots (fault ∷ faults) plan needed p is e f = let none = is.planned in let bad : Some plan ≡ None = sym e ∙ none in cc
 
-module _ (unit : Unit) (q : Quantum) (processors : Option ℕ) (tasks : List Listed) (is : IsQuantum q) (some : AreSome processors) (told : AreTold tasks)
-    (few : length tasks ≤ LARGEST_TASK) where
-  written : (m : ℕ) (plan : Plan) → 1 ≤ m → m ≤ 64 → IsPlanned (slots_in q tasks) (Some plan) → IsWritten m q.length tasks plan
+module _ (terms : Terms) (q : Quantum) (given : List ℕ) (tasks : List Listed) (is : IsQuantum q) (is_given : (given ≡ []) ⊎ (given ≡ q.length ∷ []))
+    (some : AreSome terms.processors) (told : AreTold tasks) (few : length tasks ≤ LARGEST_TASK) where
+  abbrev slots : List Slotted
+  slots = slots_in q terms.arrivals tasks
+
+  written : (m : ℕ) (plan : Plan) → 1 ≤ m → m ≤ 64 → IsPlanned slots (Some plan) → IsWritten m q.length tasks plan
   written m plan some_processors few_processors planned =
-      let kept = keeps (slots_in q tasks) plan (slots_all q tasks is told.works) planned in
+      let kept = keeps slots plan (slots_all q terms.arrivals tasks is told.works) planned in
       record {
         some_processors = some_processors;
         few_processors = few_processors;
@@ -207,50 +222,72 @@ module _ (unit : Unit) (q : Quantum) (processors : Option ℕ) (tasks : List Lis
         some_base = kept.some;
         base = kept.within;
         few = few;
-        few_joins = omega (arith, kept.few, slots_few q tasks, few);
+        few_joins = omega (arith, kept.few, slots_few q terms.arrivals tasks, few);
         names = told.names;
         slotted = kept.slotted;
         periods = kept.periods;
       }
 
-  writes : (m : ℕ) (plan : Plan) (a : Answer) → 1 ≤ m → m ≤ 64 → IsPlanned (slots_in q tasks) (Some plan) → IsPlanAnswer unit m q.length tasks plan a
-      → WritesPlan q.length tasks a
-  writes m plan a some_processors few_processors planned answers = record {
+  writes : (unit : Unit) (last : List ℕ) (m : ℕ) (plan : Plan) (a : Answer) → 1 ≤ m → m ≤ 64 → IsPlanned slots (Some plan)
+      → IsPlanAnswer unit m q.length tasks plan last a → WritesPlan given tasks a
+  writes unit last m plan a some_processors few_processors planned answers = record {
+    quantum = q.length;
+    given = is_given;
     processors = m;
     plan = plan;
     written = written m plan some_processors few_processors planned;
-    measured = measured (slots_in q tasks) plan (slots_all q tasks is told.works) planned;
+    measured = measured slots plan (slots_all q terms.arrivals tasks is told.works) planned;
     text = answers.text;
     status = answers.status;
   }
 
-  none_written : (shown : List ℕ) (a : Answer) → IsTold shown a → WritesNothing a ⊎ WritesPlan q.length tasks a
-  none_written shown a t = inl (record { text = t.text; status = t.status })
-
-  on_processors : (o : Option ℕ) (plan : Plan) (needed : ℕ) (a : Answer) → AreSome o → IsPlanned (slots_in q tasks) (Some plan) → IsNeeded plan.base plan.load needed
-      → OnProcessors unit q.length tasks plan needed o a → WritesNothing a ⊎ WritesPlan q.length tasks a
-  on_processors (Some given) plan needed a are planned needs on = inr (writes given plan a are.0 are.1 planned on)
-  on_processors None plan needed a are planned needs on = by (nat_lt 64 needed) refl on
+  on_processors : (f : ListFile) (last : List ℕ) (o : Option ℕ) (plan : Plan) (needed : ℕ) (a : Answer) → AreSome o → IsPlanned slots (Some plan)
+      → IsNeeded plan.base plan.load needed → OnProcessors f q.length tasks plan needed last o a → WritesNothing a ⊎ WritesPlan given tasks a
+  on_processors f last (Some m) plan needed a are planned needs on = inr (writes f.unit last m plan a are.0 are.1 planned on)
+  on_processors f last None plan needed a are planned needs on = by (nat_lt 64 needed) refl on
     where
-      by : (b : Bool) → nat_lt 64 needed ≡ b → MatchBool b (IsTold (too_many_text needed) a) (IsPlanAnswer unit needed q.length tasks plan a)
-          → WritesNothing a ⊎ WritesPlan q.length tasks a
-      by true many t = none_written (too_many_text needed) a t
-      by false within t = inr (writes needed plan a needs.some (grind (arith, nat_tests, within)) planned t)
+      by : (b : Bool) → nat_lt 64 needed ≡ b → MatchBool b (IsTold (too_many_text f needed) a) (IsPlanAnswer f.unit needed q.length tasks plan last a)
+          → WritesNothing a ⊎ WritesPlan given tasks a
+      by true many t = inl (record { text = t.text; status = t.status })
+      by false within t = inr (writes f.unit last needed plan a needs.some (grind (arith, nat_tests, within)) planned t)
 
-  script_for : (p : Planned) (a : Answer) (o : Option Plan) (n : Option ℕ) → p.plan ≡ o → p.needed ≡ n → IsPlannedAt unit q tasks p
-      → ScriptFor unit tasks p processors o n a → WritesNothing a ⊎ WritesPlan q.length tasks a
-  script_for p a None n e f at for = none_written _ a for
-  script_for p a (Some plan) None e f at for = none_written _ a for
-  script_for p a (Some plan) (Some needed) e f at for =
-      let plans = plans_of q (slots_in q tasks) (slot_faults unit q tasks) plan needed p at e f in
-      on_processors processors plan needed a some plans.planned plans.needs
-      (subst (λ (v : Quantum). OnProcessors unit v.length tasks plan needed processors a) plans.quantum for)
+  script_for : (f : ListFile) (tried : Option ℕ) (p : Planned) (a : Answer) (o : Option Plan) (n : Option ℕ) → p.plan ≡ o → p.needed ≡ n
+      → IsPlannedAt q terms.arrivals tasks p → ScriptFor f terms tried tasks p o n a → WritesNothing a ⊎ WritesPlan given tasks a
+  script_for f tried p a None n e g at for = inl (record { text = for.text; status = for.status })
+  script_for f tried p a (Some plan) None e g at for = inl (record { text = for.text; status = for.status })
+  script_for f tried p a (Some plan) (Some needed) e g at for =
+      let plans = plans_of q slots (slot_faults q terms.arrivals tasks) plan needed p at e g in
+      on_processors f (tried_line f.unit q.length terms.processors needed tried) terms.processors plan needed a some plans.planned plans.needs
+      (subst (λ (v : Quantum).
+      OnProcessors f v.length tasks plan needed (tried_line f.unit v.length terms.processors needed tried) terms.processors a) plans.quantum for)
 
-  script_told : (lines : List (List ℕ)) (a : Answer) → ScriptTold unit q processors tasks lines a → WritesNothing a ⊎ WritesPlan q.length tasks a
-  script_told [] a (p, at, for) = script_for p a p.plan p.needed refl refl at for
-  script_told (line ∷ lines) a t = none_written _ a t
+module _ (terms : Terms) (given : List ℕ) (tasks : List Listed) (some : AreSome terms.processors) (told : AreTold tasks) (few : length tasks ≤ LARGEST_TASK)
+    (f : ListFile) (all : List Planned) (a : Answer) (found : ArePlannedIn terms given tasks all) where
+  within : (i : ℕ) → IsShownQuantum terms.processors (map outcome_of all) i → i < length all
+  within i (inl best) = omega (arith, best.within, length-map all outcome_of)
+  within i (inr none) = omega (arith, none.1.within, length-map all outcome_of)
+
+  shown : (place : Option ℕ) → MatchOption place (length (map outcome_of all) ≡ 0) (IsShownQuantum terms.processors (map outcome_of all))
+      → ScriptShown f terms (tried_of given all) tasks all place a → WritesNothing a ⊎ WritesPlan given tasks a
+  shown None is t = inl (record { text = t.text; status = t.status })
+  shown (Some i) is (p, same, for) =
+      let lt : i < length all = within i is in
+      let lt_quanta : i < length found.quanta = omega (arith, lt, found.planned.as_many) in
+      let q : Quantum = quantum_of terms.switch (slice_index found.quanta i) in
+      script_for terms q given tasks (record { switch = found.longer i 0 lt_quanta; length = found.short i 0 lt_quanta }) (found.is_given i lt_quanta) some told few
+      f (tried_of given all) p a p.plan p.needed refl refl
+      (subst (IsPlannedAt q terms.arrivals tasks) (sym same) (found.planned.each i p lt)) for
+
+module _ (name : List ℕ) (c : Conversion) (text : List ℕ) (a : Answer) (is : IsConversion c) (some : AreSome c.processors) (script : c.format ≡ Script) where
+  answered : (told : ListTold) (faults : List Told) → IsFewTold LARGEST_TASK told → AnswersList name text c told faults a
+      → WritesNothing a ⊎ WritesPlan c.quanta told.tasks a
+  answered told [] few answer =
+      let made : IsScriptAnswer answer.file (terms_of c) c.quanta told.tasks answer.all a =
+      subst (λ format. IsAnswerIn format answer.file c told.tasks answer.all a) script answer.answers in
+      shown (terms_of c) c.quanta told.tasks some few.tasks few.few answer.file answer.all a
+      (planned_in (terms_of c) c.quanta told.tasks answer.all is.longer is.short (is.one script) answer.planned) made.place made.is_shown made.shows
+  answered told (fault ∷ faults) few t = inl (record { text = t.text; status = t.status })
 
 pub lists_become_plans : ListsBecomePlans
-lists_become_plans unit q processors list a is some made =
-    let told = list_is_told unit (rows list) in
-    script_told unit q processors (list_told unit (rows list)).tasks is some told.tasks told.few (list_told unit (rows list)).faults a made
+lists_become_plans name c list a is some script made =
+    answered name c list a is some script (list_told name c.unit list) (list_told name c.unit list).faults (list_is_told name c.unit list) made

@@ -1,14 +1,14 @@
 -- What `fit` answers to the script that a conversion writes.
-use Rattle.std.specs.Prelude.{◌≡◌, ◌⊎◌, ℕ, Option, Some, List}
-use Rattle.pf_convert.specs.declared.quantum.Quantum.{Quantum}
-use Rattle.pf_convert.specs.Slots.{IsQuantum}
-use Rattle.pf_convert.specs.Conversion.Answers.{MakesScript}
+use Rattle.std.specs.Prelude.{◌≡◌, ◌⊎◌, ℕ, Some, List}
+use Rattle.pf_convert.specs.declared.words.conversion.Conversion.{Conversion}
+use Rattle.pf_convert.specs.declared.words.conversion.ConvertFormat.TheVariants.{Script}
+use Rattle.pf_convert.specs.Words.Reading.{IsConversion}
+use Rattle.pf_convert.specs.Conversion.Conversions.{MakesConversion}
 use Rattle.pf_script_laws.specs.Conversions.Written.{AreSome, WritesNothing}
 use Rattle.pf_vocabulary.specs.declared.fault.answer.Answer.{Answer}
 use Rattle.pf_fit_command.specs.Fit.{FitMade}
 use Rattle.pf_vocabulary.specs.declared.options.fit_format.FitFormat.{FitFormat}
 use Rattle.pf_vocabulary.specs.declared.names.titles.Titles.{Titles}
-use Rattle.pf_vocabulary.specs.declared.names.unit.Unit.{Unit}
 use Rattle.pf_plain_script.specs.Plain.{Plain, plain}
 use Rattle.pf_text.specs.Page.{table_text}
 
@@ -22,5 +22,5 @@ pub record IsFitAlike (a : Answer) : Type 0 where
 -- Of the script that is made of a list `fit` says what the conversion says, whatever the list.
 abbrev pub ConvertAndFitAgree : Type 0
 ConvertAndFitAgree =
-    (unit : Unit) (q : Quantum) (processors : Option ℕ) (list : List ℕ) (a : Answer) → IsQuantum q → AreSome processors → MakesScript unit q processors list a
+    (name : List ℕ) (c : Conversion) (list : List ℕ) (a : Answer) → IsConversion c → AreSome c.processors → c.format ≡ Script → MakesConversion name c list a
     → WritesNothing a ⊎ IsFitAlike a

@@ -1,22 +1,26 @@
-use Rattle.std.proofs.Common.{sym, subst, ◌+◌, take}
-use Rattle.pf_convert.proofs.Rounding.{IsBestSoFar, item_passed, item_taken, best_of_all}
+use Rattle.std.proofs.Common.{length, sym, ap, subst, arith}
+use Rattle.std.specs.Prelude.{MatchOption, All}
+use Rattle.std.proofs.lemmas.List.Sorted.{All-permutation, length_permutation}
+use Rattle.pf_convert.specs.Rounding.{HasNoBase, IsBestBase}
+use Rattle.pf_convert.specs.Slots.{IsSlotted}
+use Rattle.pf_convert.proofs.Stretches.{best_of_moved}
 use Rattle.pf_convert.proofs.best_base.best_base.Goals as goal
-use Rattle.pf_convert.proofs.best_base.best_base.Goals.{in-Some, in-None}
 
-pub loop-divided-preserved : goal.loop-divided-preserved
-loop-divided-preserved c =
-    elim c.match-load_over.branch [
-      | in-Some w ↦
-          subst (λ o. IsBestSoFar c.args.tasks.now (take (c.loop-divided.divided-index + 1) c.args.bases.now) o) (sym w.best-is)
-          (item_taken c.args.tasks.now c.args.bases.now c.loop-divided.divided-index c.divided-item.result c.loop-divided.best w.in-Some.load w.better.result
-          c.loop-divided-test.true c.divided-item.is c.requires.bases w.in-Some.ensures w.better.ensures c.loop-divided.invariant)
-      | in-None w ↦
-          subst (λ o. IsBestSoFar c.args.tasks.now (take (c.loop-divided.divided-index + 1) c.args.bases.now) o) (sym w.best-is)
-          (item_passed c.args.tasks.now c.args.bases.now c.loop-divided.divided-index c.divided-item.result c.loop-divided.best
-          c.loop-divided-test.true c.divided-item.is w.in-None.ensures c.loop-divided.invariant)
-    ]
+pub best_of-requires-clause-slotted : goal.best_of-requires-clause-slotted
+best_of-requires-clause-slotted c =
+    subst (λ ts. All IsSlotted ts) (sym c.deref-2.ensures.value)
+    (All-permutation IsSlotted c.args.tasks.now c.in_ok-sorted.sorted.items c.in_ok-sorted.ensures.permutation c.requires.slotted)
+
+pub best_of-requires-clause-few : goal.best_of-requires-clause-few
+best_of-requires-clause-few c =
+    omega (
+      arith,
+      c.requires.few,
+      length_permutation c.args.tasks.now c.in_ok-sorted.sorted.items c.in_ok-sorted.ensures.permutation,
+      ap length c.deref-2.ensures.value,
+    )
 
 pub returns : goal.returns
 returns c =
-    best_of_all c.args.tasks.now c.args.bases.now c.loop-divided.divided-index c.loop-divided.best c.loop-divided-test.false c.requires.bases
-    c.loop-divided.invariant
+    best_of_moved c.args.tasks.now c.in_ok-sorted.sorted.items c.best_of.result c.in_ok-sorted.ensures.permutation
+    (subst (λ ts. MatchOption c.best_of.result (HasNoBase ts) (IsBestBase ts)) c.deref-2.ensures.value c.best_of.ensures)

@@ -1,13 +1,8 @@
-use Rattle.pf_convert.proofs.Dividing.{one_looked_at, greatest_is_rounded}
+use Rattle.std.proofs.Common.{sym}
+use Rattle.pf_convert.proofs.Dividing.{last_is_rounded}
 use Rattle.pf_convert.proofs.divisors.rounded_down.Goals as goal
-
-pub loop-divisor-preserved : goal.loop-divisor-preserved
-loop-divisor-preserved c =
-    one_looked_at c.args.base c.args.period c.args.divisors.now c.loop-divisor.divisor-index c.loop-divisor.greatest c.greater_within-greatest.result
-    c.loop-divisor-test.true c.requires.divisors c.loop-divisor.invariant c.greater_within-greatest.ensures.kept c.greater_within-greatest.ensures.within
-    c.greater_within-greatest.ensures.one
 
 pub returns : goal.returns
 returns c =
-    greatest_is_rounded c.args.base c.args.period c.args.divisors.now c.loop-divisor.divisor-index c.loop-divisor.greatest c.requires.some
-    c.loop-divisor-test.false c.requires.divisors c.loop-divisor.invariant
+    sym (last_is_rounded c.args.base c.args.period c.last_within.result c.args.divisors.now c.requires.divisors c.requires.rising
+    c.last_within.ensures.there c.last_within.ensures.within c.last_within.ensures.last)

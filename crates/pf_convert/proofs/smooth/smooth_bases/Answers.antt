@@ -22,5 +22,6 @@ loop-number-preserved c =
     (record {
       some = items_some numbers items i same c.in_ok-numbers.ensures c.loop-number-test.true;
       within = items_within numbers items i same c.in_ok-numbers.ensures c.loop-number-test.true;
-      divisors = c.in_ok-divisors.ensures;
+      divisors = c.in_ok-divisors.ensures.divisors;
+      rising = c.in_ok-divisors.ensures.rising;
     }))

@@ -4,4 +4,4 @@ use Rattle.pf_convert.specs.Conversion.Script.{numbered}
 use Rattle.pf_convert.proofs.conversion.json.push_faults.Given as goal
 
 abbrev pub invariant-loop-place : goal.invariant-loop-place
-invariant-loop-place l = l.text.items ++ numbered (fault_item) l.place (drop l.place l.faults) ≡ l.fn.text.items ++ numbered (fault_item) 0 l.faults
+invariant-loop-place l = l.text.items ++ numbered (fault_item l.file l.arrivals l.quantum) l.place (drop l.place l.faults) ≡ l.fn.text.items ++ numbered (fault_item l.file l.arrivals l.quantum) 0 l.faults

@@ -10,7 +10,7 @@ pub returns : goal.returns
 unfolding no_plan_json
 returns c =
     on_ok_weaker c.push_parts-2.result
-    (λ e. three_written c.args.text.now.items (joined (codes "{\"base\":null,\"exact\":null,\"faults\":[" ∷ [])) (numbered fault_item 0 c.args.faults.now)
+    (λ e. three_written c.args.text.now.items (joined (codes "{\"base\":null,\"exact\":null,\"faults\":[" ∷ [])) (numbered (fault_item c.args.file.now c.args.arrivals c.args.quantum) 0 c.args.faults.now)
     (joined (codes "],\"fits\":false,\"load\":null,\"processors\":null,\"quantum\":" ∷ decimal c.args.quantum ∷ codes ",\"tasks\":[]}" ∷ []))
     c.push_parts.new.text.items c.push_faults.new.text.items c.push_parts-2.new.text.items c.in_ok-push_parts.ensures c.in_ok-push_faults.ensures e)
     c.push_parts-2.ensures

@@ -4,6 +4,6 @@ use Rattle.pf_convert.proofs.list.list.read_tasks.Given as goal
 
 abbrev pub invariant-loop-count : goal.invariant-loop-count
 invariant-loop-count l = record {
-  told : tasks_told l.unit l.heading l.count l.list l.rows.end l.rows.rows ≡ tasks_told l.unit l.heading 0 l.initial.list l.initial.rows.end l.initial.rows.rows;
+  told : tasks_told l.head l.count l.list l.rows.end l.rows.rows ≡ tasks_told l.head 0 l.initial.list l.initial.rows.end l.initial.rows.rows;
   few : length l.list.tasks ≤ l.count;
 }

@@ -1,7 +1,7 @@
 use Rattle.std.proofs.Common.{◌≡◌, ◌∙◌, Err, sym, ap, arith}
 use Rattle.std.proofs.lemmas.Grind.{common_steps}
 use Rattle.csv.specs.Records.{fields_of}
-use Rattle.pf_convert.specs.List.Heading.{field_given, heading_in}
+use Rattle.pf_convert.specs.List.Heading.{field_given, heading_in, needed_in}
 use Rattle.pf_convert.proofs.ListLemmas.Reading.{next_field, bad_field, all_fields}
 use Rattle.pf_convert.proofs.list.heading.Heading.read.Goals as goal
 
@@ -23,5 +23,7 @@ loop-place-preserved c =
 pub returns : goal.returns
 returns c =
     c.complete.ensures
-    ∙ sym (all_fields (fields_of c.args.row.now) c.loop-place.place c.loop-place.heading (omega (arith, c.loop-place-test.false, c.len-place-end.ensures)))
+    ∙ ap (λ n. needed_in n c.loop-place.heading) c.field_number.ensures
+    ∙ sym (all_fields (fields_of c.args.row.now) c.loop-place.place _ c.loop-place.heading c.len.ensures
+    (omega (arith, c.loop-place-test.false, c.len-place-end.ensures)) (omega (arith, c.loop-place.auto.place-end, c.len.ensures, c.len-place-end.ensures)))
     ∙ c.loop-place.invariant

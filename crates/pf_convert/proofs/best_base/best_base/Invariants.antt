@@ -1,6 +1,0 @@
-use Rattle.std.proofs.Common.{take}
-use Rattle.pf_convert.proofs.Rounding.{IsBestSoFar}
-use Rattle.pf_convert.proofs.best_base.best_base.Given as goal
-
-abbrev pub invariant-loop-divided : goal.invariant-loop-divided
-invariant-loop-divided l = IsBestSoFar l.tasks (take l.divided-index l.bases) l.best
