@@ -20,6 +20,9 @@ FUNCTION = re.compile(r"( *)(pub |pub\([a-z]+\) |)fn ")
 CODE = re.compile(r"\b([a-z]\w*)((?:::\w+)+)")
 PROOF = re.compile(r"\bRattle\.(\w+)((?:\.[\w-]+)+)")
 
+# An import: a path on one line, or names in braces. A line of a text that begins with "use" is none.
+IMPORT = re.compile(r"^(?:ghost )?use ([^;{\n]*(?:\{[^{}]*\})?);\n", re.M)
+
 # What a file of src/ declares for others, and what it implements.
 DECLARED = re.compile(r"^pub (?:struct|enum|trait|type) (\w+)", re.M)
 IMPLEMENTED = re.compile(r"^(?:unsafe )?impl\b.*$", re.M)
@@ -65,8 +68,8 @@ def names_in(imported):
 def seen_of_code(text):
     """What other crates see of a source file: no comment, no private function, no body, and no import for these alone."""
     text = re.sub(r"^ *(?://|#\[tactic\().*\n", "", text, flags=re.M)
-    imports = re.findall(r"^(?:ghost )?use ([^;]*);", text, re.M)
-    rest = [it for it in without_bodies(re.sub(r"^(?:ghost )?use [^;]*;\n", "", text, flags=re.M).split("\n")) if it]
+    imports = IMPORT.findall(text)
+    rest = [it for it in without_bodies(IMPORT.sub("", text).split("\n")) if it]
     words, signs = set(re.findall(r"[\w'-]+", " ".join(rest))), " ".join(rest)
     named = [it for line in imports for it in names_in(line)]
     named = [it for it in named if last_word(it) in words or not re.search(r"\w", it[1]) and it[1].strip("◌") in signs]
