@@ -15,7 +15,7 @@ PROGRAM = TOP / "crates" / "pfair" / "out" / "pfair"
 LIBRARIES = tuple(TOP / "out" / "faces" / it for it in ("libpf_face.a", "libpfair.a", "libpfair.so"))
 
 # What else the desk's library is made of.
-FACE_TEXTS = ("include/pfair.h", "faces/c/heap.c", "faces/c/heap.h", "tools/faces", "tools/elf_names.py")
+FACE_TEXTS = ("include/pfair.h", "include/pfair_shared.h", "faces/c/heap.c", "faces/c/heap.h", "tools/faces", "tools/elf_names.py")
 
 
 def sum_of(path):
@@ -29,11 +29,11 @@ def toolchain():
     return said_by("rt", "version")
 
 
-def sum_of_texts(crate, others=()):
-    """A sum of the toolchain, of the texts of a crate and of those below it, and of other files."""
+def sum_of_texts(names, others=()):
+    """A sum of the toolchain, of the texts of these crates and of those below them, and of other files."""
     uses = crates()
     found = hashlib.sha256(repr((toolchain(), (kit() / "WHAT").read_bytes())).encode())
-    for name in [*all_below(crate, uses), crate]:
+    for name in dict.fromkeys(it for crate in names for it in (*all_below(crate, uses), crate)):
         files = texts_of(name, ("src", "specs", "proofs"))
         found.update(repr((name, uses[name], [(str(it.relative_to(TOP)), sum_of(it)) for it in files])).encode())
     found.update(repr([(it, sum_of(TOP / it)) for it in others]).encode())
@@ -41,15 +41,15 @@ def sum_of_texts(crate, others=()):
 
 
 class Build:
-    """A thing that is built: its name, the crate and the other texts that it is built of, and its files."""
+    """A thing that is built: its name, the crates and the other texts that it is built of, and its files."""
 
-    def __init__(self, name, crate, files, others=()):
-        self.name, self.crate, self.files, self.others = name, crate, files, others
+    def __init__(self, name, names, files, others=()):
+        self.name, self.crates, self.files, self.others = name, names, files, others
         self.path = RECORDS / f"{name}.json"
 
     def texts(self):
         """The sum of its texts as they stand, for `note` to take when they have been built."""
-        return sum_of_texts(self.crate, self.others)
+        return sum_of_texts(self.crates, self.others)
 
     def note(self, texts):
         """Notes that the files were built of the texts with this sum."""
@@ -68,6 +68,6 @@ class Build:
 
 
 # The proved program, the proved library for other languages, and the program that is built without a proof.
-PROVED = Build("pfair", "pfair", [PROGRAM])
-FACES = Build("faces", "pf_c_api", LIBRARIES, FACE_TEXTS)
-QUICK = Build("quick", "pfair", [TOP / "out" / "quick" / "pfair"], ["tools/quick_program.py"])
+PROVED = Build("pfair", ["pfair"], [PROGRAM])
+FACES = Build("faces", ["pf_c_api", "pf_shared_c_api"], LIBRARIES, FACE_TEXTS)
+QUICK = Build("quick", ["pfair"], [TOP / "out" / "quick" / "pfair"], ["tools/quick_program.py"])

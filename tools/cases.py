@@ -19,7 +19,7 @@ SCRIPTS, EXAMPLES = CASES / "scripts", TOP / "examples"
 EXPECTED = EXAMPLES / "expected"
 
 # What is in examples/ beside scripts.
-OTHERS = (".md", ".py", ".told")
+OTHERS = (".c", ".md", ".py", ".told")
 
 
 @dataclass(frozen=True)

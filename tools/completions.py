@@ -1,5 +1,5 @@
 """Completions of the program's words for bash, zsh and fish, made of its own help."""
-from help_text import values
+from help_text import TOPICS, values
 
 
 def quoted(text):
@@ -18,6 +18,11 @@ def option_values(command, whole):
 
 def takes_files(command):
     return any(it.takes_file() for it in command.arguments)
+
+
+def helped(whole, commands):
+    """What may stand after `help`, with what is said of it: commands and topics."""
+    return [(it.name, it.about) for it in commands] + [(name, TOPICS[name]) for name in whole.topics]
 
 
 BASH = """\
@@ -80,7 +85,7 @@ def bash(whole, commands):
             given.append(f"    {heads}) {bash_value(option, listed, are_joined)}; return ;;")
         options = " ".join(word for it in command.options for word in it.words())
         taken.append(f"    {command.name}) options=\"{options}\" files={'1' if takes_files(command) else ''} ;;")
-    names = " ".join(it.name for it in commands)
+    names = " ".join(it for it, _ in helped(whole, commands))
     taken.append(f'    help) [[ $COMP_CWORD -eq 2 ]] && COMPREPLY=($(compgen -W "{names}" -- "$word")); return ;;')
     text = BASH.replace("@WORDS@", " ".join(words))
     return text.replace("@VALUES@", "\n".join(given)).replace("@OPTIONS@", "\n".join(taken))
@@ -96,6 +101,9 @@ _pfair() {
     local -a commands=(
 @COMMANDS@
     )
+    local -a helped=(
+@HELPED@
+    )
     _arguments -C \\
 @OPTIONS@
         '1: :->command' '*:: :->words'
@@ -104,7 +112,7 @@ _pfair() {
     words)
         case $line[1] in
 @WORDS@
-        help) _describe -t commands command commands ;;
+        help) _describe -t commands command helped ;;
         esac ;;
     esac
 }
@@ -122,6 +130,11 @@ def zsh_text(text):
     for it in "\\[]:":
         text = text.replace(it, "\\" + it)
     return text
+
+
+def zsh_pair(name, text):
+    """A word and what is said of it, as _describe takes both."""
+    return quoted(name + ":" + text.replace(":", "\\:"))
 
 
 def zsh_value(option, listed, are_joined):
@@ -145,7 +158,7 @@ def zsh_option(option, whole):
 
 def zsh(whole, commands):
     """The completions for zsh."""
-    told = [f"        {quoted(name + ':' + text.replace(':', chr(92) + ':'))}" for name, text in whole.commands]
+    told, also = ("\n".join(f"        {zsh_pair(*it)}" for it in pairs) for pairs in (whole.commands, helped(whole, commands)))
     branches = []
     for command in commands:
         lines = [f"            {zsh_option(it, whole)}" for it in command.options]
@@ -153,7 +166,8 @@ def zsh(whole, commands):
             lines.append(f"            '{at}:{argument.name}:{'_files' if argument.takes_file() else ' '}'")
         branches.append(f"        {command.name}) _arguments \\\n" + " \\\n".join(lines) + " ;;")
     options = "\n".join(f"        {zsh_option(it, whole)} \\" for it in whole.options)
-    return ZSH.replace("@COMMANDS@", "\n".join(told)).replace("@OPTIONS@", options).replace("@WORDS@", "\n".join(branches))
+    text = ZSH.replace("@COMMANDS@", told).replace("@HELPED@", also)
+    return text.replace("@OPTIONS@", options).replace("@WORDS@", "\n".join(branches))
 
 
 def fish_option(option, condition, whole):
@@ -178,6 +192,6 @@ def fish(whole, commands):
         seen = f"__fish_seen_subcommand_from {command.name}"
         lines += [fish_option(it, seen, whole) for it in command.options]
         lines += [f"complete -c pfair -n {quoted(seen)} -F"] if takes_files(command) else []
-    names = " ".join(it.name for it in commands)
-    lines.append(f"complete -c pfair -n '__fish_seen_subcommand_from help' -a {quoted(names)}")
+    for name, text in helped(whole, commands):
+        lines.append(f"complete -c pfair -n '__fish_seen_subcommand_from help' -a {name} -d {quoted(text)}")
     return "\n".join(lines) + "\n"

@@ -3,6 +3,7 @@ import json
 from dataclasses import dataclass
 from fractions import Fraction
 
+import messages_model
 import model
 import sentences
 from pictures import in_use
@@ -209,9 +210,8 @@ def words(script, as_json):
 
 def meaning(script, as_json):
     """What `pfair fit` writes for the script, what it tells of a fault, and its status."""
-    carried = sentences.carried(script)
     if not sentences.is_good(script):
-        return b"", f"bad record {carried}\n".encode(), 1
-    fit = Fit(carried)
+        return b"", messages_model.first(script), 1
+    fit = Fit(sentences.carried(script))
     answer = json.dumps(object_of(fit), sort_keys=True, separators=(",", ":")) + "\n" if as_json else text(fit)
     return answer.encode(), b"", 0 if fit.verdict() == "fits" else 6

@@ -124,7 +124,7 @@ def library_files(version):
     words = {"version": version, "minor": ".".join(version.split(".")[:2]), "shared": NAME_OF_SHARED}
     _, archive, shared = LIBRARIES
     return {
-        "include/pfair.h": File((TOP / "include" / "pfair.h").read_bytes()),
+        **{f"include/{it}": File((TOP / "include" / it).read_bytes()) for it in ("pfair.h", "pfair_shared.h")},
         "lib/libpfair.a": File(archive.read_bytes()),
         f"lib/{NAME_OF_SHARED}": File(shared.read_bytes()),
         "lib/libpfair.so": File(link=NAME_OF_SHARED),
@@ -137,7 +137,7 @@ def library_files(version):
 def document_files():
     """README, the changes, and of docs/ and examples/ all but what only the gate compares."""
     paths = [TOP / "README.md", TOP / "CHANGELOG.md", *(TOP / "docs").iterdir()]
-    paths += [it for it in (TOP / "examples").rglob("*") if it.suffix in (".csv", ".md", ".py")]
+    paths += [it for it in (TOP / "examples").rglob("*") if it.suffix in (".c", ".csv", ".md", ".py")]
     return {f"{DOCUMENTS}/{it.relative_to(TOP)}": File(it.read_bytes()) for it in sorted(paths)}
 
 

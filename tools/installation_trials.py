@@ -16,6 +16,7 @@ PLAN = TOP / "faces" / "c" / "plan.c"
 # Lines at whose ends completions are asked for, in a folder with a file plan.csv, and all that must be offered.
 LINES = {
     "pfair help co": {"convert"},
+    "pfair help s": {"status", "script"},
     "pfair convert --unit ": {"ns", "us", "ms", "s"},
     "pfair run --style st": {"strips", "stairs"},
     "pfair run --fail-on refused,m": {"refused,missed"},

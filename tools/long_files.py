@@ -43,7 +43,7 @@ class LongFile:
         short, most, more = (self.answered(program, it) for it in (self.front, padded(self.front, LONGEST), padded(self.front, LONGEST + 1)))
         if most != short:
             return f"{self.words} of the greatest length: {most[0][:300]!r}, {most[1][:300]!r} status {most[2]}, not {short[0][:300]!r}, {short[1][:300]!r} status {short[2]}"
-        if (more[0], more[2]) != (b"", 1) or not more[1].startswith(b"the script is longer than 16777216 bytes\n"):
+        if (more[0], more[2]) != (b"", 1) or more[1] != b"plan.csv: it has more than 16777216 bytes\n":
             return f"{self.words} of a byte too many: {more[0][:300]!r}, {more[1][:300]!r} status {more[2]}"
 
 

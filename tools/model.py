@@ -13,6 +13,7 @@ from fractions import Fraction
 from functools import cache, lru_cache
 from itertools import count
 
+import code_model
 from pictures import chart, in_use, listed_tasks, picture
 
 # Limits
@@ -513,7 +514,7 @@ class Desk:
             "jobs": lambda: jobs_table(placed),
             "load": lambda: load_table(placed, first, end),
             "quanta": lambda: quanta_table(placed, first, end),
-            "c": lambda: c_array(placed),
+            "c": lambda: c_table(placed),
             "drill": lambda: "schedule\n" + schedule(placed, first, end) + "taken\n" + taken_table(self.taken),
         }
         return reports[view.form]()
@@ -637,15 +638,9 @@ def load_table(placed, first, end):
                  ((t, *now) for t, before, now in zip(range(first, end), [None, *levels], levels) if now != before))
 
 
-def c_array(placed):
-    """The schedule as a C array: a row for each slot, or one with nobody in it."""
-    settings, count_of_slots = placed.run.scenario.settings, len(placed.rows)
-    rows = placed.rows or [[None] * settings.processors]
-    lines = ("    {" + ", ".join(str(place[0] if place else 0) for place in row) + "},\n" for row in rows)
-    return (f"/* PD2 schedule: {settings.processors} processors, {count_of_slots} slots, base {settings.base}. "
-            "One row a slot, one task a processor; 0 is nobody. */\n#include <stdint.h>\n"
-            f"enum {{ PFAIR_PROCESSORS = {settings.processors}, PFAIR_SLOTS = {count_of_slots} }};\n"
-            f"static const uint16_t pfair_schedule[{len(rows)}][{settings.processors}] = {{\n" + "".join(lines) + "};\n")
+def c_table(placed, names=None, slot=None):
+    """The schedule as a table in C."""
+    return code_model.table(placed, [placed.run.join_of(task.number) for task in admitted_tasks(placed)], names, slot)
 
 
 def lags_table(placed):

@@ -1,25 +1,35 @@
 """What pfair must tell behind a run in notes, and by `check --run`, from docs/COMMANDS.md: over the lines of sentences.py."""
+import messages_model
 import model
 import sentences
 
 
-def words(script, checks):
-    """The words that ask for a check, or for notes; of a bad script, of whose faults no model tells, for neither."""
-    is_good = sentences.is_good(script)
-    return ["check", "--run"] if checks and is_good else ["run", "-f", "denials", *["--notes"] * is_good]
+def words(_, checks):
+    """The words that ask for a check, or for notes."""
+    return ["check", "--run"] if checks else ["run", "-f", "denials", "--notes"]
 
 
 def meaning(script, checks):
     """What is written then, what is told, and the status."""
-    run = sentences.carried(script)
     if not sentences.is_good(script):
-        return b"", f"bad record {run}\n".encode(), 1
-    lines, sums = list(sentences.told(run)), f"{run.refused()} refused, {run.denied()} denied, {run.missed()} missed"
+        written, status = messages_model.checked(script, "; not run")
+        return (written, b"", status) if checks else (b"", messages_model.first(script), status)
+    run = sentences.carried(script)
     if checks:
-        lines.append(f"{len(run.lines)} records, 0 faults, {sums}")
+        lines = [*sentences.told(run), f"{len(run.lines)} records, 0 faults, {sums(run)}"]
         return text_of(lines), b"", int(len(lines) > 1)
-    notes = [*sentences.in_short(lines), f"-: {sums}"] if lines else []
-    return model.denials_table(run.placed).encode(), text_of(notes), 0
+    return model.denials_table(run.placed).encode(), notes(script), 0
+
+
+def sums(run):
+    return f"{run.refused()} refused, {run.denied()} denied, {run.missed()} missed"
+
+
+def notes(script):
+    """What is told behind the answer to a good script."""
+    run = sentences.carried(script)
+    lines = sentences.in_short(list(sentences.told(run)))
+    return text_of([*lines, f"-: {sums(run)}"] if lines else [])
 
 
 def text_of(lines):

@@ -244,11 +244,6 @@ def picture(placed, told, view, first, end):
     return pictures.picture(placed, model.NAMES, missed, first, end, view.cell(), view.wrap(), view.style(), told.names, told.slot)
 
 
-def c_array(placed, told):
-    first, behind = model.c_array(placed).split("\n", 1)
-    return "\n".join([first, *(f"/* task {task}: {told.names[task]} */" for task in sorted(told.names)), behind])
-
-
 def told_by(desk, told, view):
     """The report in the view's format."""
     placed = model.run_of(desk.scenario, desk.now)
@@ -264,7 +259,7 @@ def told_by(desk, told, view):
         "script": lambda: script(desk, told),
         "chart": lambda: chart(placed, told, first, end),
         "svg": lambda: picture(placed, told, view, first, end),
-        "c": lambda: c_array(placed, told),
+        "c": lambda: model.c_table(placed, told.names, told.slot),
     }
     return own[view.form]() if view.form in own else desk.report(view)
 

@@ -3,7 +3,6 @@
 A file that may not be read is tried as nobody, since whoever is root may read any.
 """
 import os
-import shutil
 import tempfile
 from dataclasses import dataclass
 from pathlib import Path
@@ -65,7 +64,9 @@ class UnreadFile:
         with tempfile.TemporaryDirectory(prefix="unread-") as name:
             room = Path(name)
             room.chmod(0o755)
-            copy = shutil.copy(program, room / "pfair")
+            # Another process copies it: what this one has open to write, a run that begins meanwhile would keep open.
+            copy = room / "pfair"
+            run_to_end(["cp", program, copy], "a copy of the program")
             path = make(room)
             words = [path if it == "plan.csv" else it for it in self.words]
             how = {"user": NOBODY, "group": NOBODY, "extra_groups": []} if os.geteuid() == 0 else {}
@@ -74,9 +75,8 @@ class UnreadFile:
             except PermissionError:
                 print(f"{self.words}: whoever is nobody can't run a program here, so no file of this kind is tried: {self.what}")
                 return None
-        first, note = b"cannot read the script\n", f"{path}: {why}\n".encode()
         got = [(it.stdout, it.stderr, it.returncode) for it in runs]
-        if got != [(b"", first + note, 3), (b"", first, 3)][: len(got)]:
+        if any(it != (b"", f"{path}: {why}\n".encode(), 3) for it in got):
             return f"{self.words}, {self.what}: {got}"
 
 

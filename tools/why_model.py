@@ -4,6 +4,7 @@ import random
 import zlib
 from dataclasses import dataclass
 
+import messages_model
 import model
 import sentences
 
@@ -207,10 +208,9 @@ def object_of(why, task):
 
 def answer(script, asked, as_json):
     """What `pfair why` writes for the script, what it tells of a fault, and its status."""
-    carried = sentences.carried(script)
     if not sentences.is_good(script):
-        return b"", f"bad record {carried}\n".encode(), 1
-    task = asked.task
+        return b"", messages_model.first(script), 1
+    carried, task = sentences.carried(script), asked.task
     if task is not None:
         task = int(task) if task.isdecimal() else next((number for number, name in carried.names.items() if name == task), None)
         if task is None:

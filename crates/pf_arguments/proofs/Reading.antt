@@ -1,10 +1,14 @@
 -- What clap's answer says of the words.
-use Rattle.std.proofs.Common.{◌≡◌, ◌⊎◌, ◌∙◌, refl, sym, ap, subst, inl, inr, Bool, true, false, option_map, List, [], Option, Some, None, Result, Ok, Err}
-use Rattle.std.specs.Prelude.{◌↔◌, string_bytes}
+use Rattle.std.proofs.Common.{◌≡◌, ◌⊎◌, ◌∙◌, refl, sym, ap, subst, inl, inr, Bool, true, false, option_map, List, [], ◌∷◌, Option, Some, None, Result, Ok, Err, arith, codes, length}
+use Rattle.std.specs.Prelude.{◌↔◌, IfOk, if◌then◌else◌, string_bytes}
+use Rattle.std.specs.declared.alloc.AllocError.{AllocError}
+use Rattle.clap.specs.Walk.{is_empty}
 use Rattle.std.specs.Bool.{Decides}
 use Rattle.std.specs.Str.{bytes_eq}
+use Rattle.std.proofs.lemmas.Bool.{ne_eqb}
 use Rattle.std.proofs.lemmas.Slice.Eq.{bytes_eq-Decides}
-use Rattle.clap.specs.Words.{IsAmong, Row, Text, fault_of, first_of, is_simple, is_simple_and_free, subcommand_of}
+use Rattle.clap.proofs.OnLiterals.{clap_on_literals}
+use Rattle.clap.specs.Words.{IsAmong, Kinds, Row, Text, fault_of, first_of, is_simple, is_simple_and_free, subcommand_of}
 use Rattle.clap.specs.declared.error.kind.ErrorKind.{ErrorKind}
 use Rattle.clap.specs.declared.error.kind.ErrorKind.TheVariants.{DisplayHelp, DisplayVersion, OutOfMemory}
 use Rattle.pf_arguments.specs.declared.request.Request.{Request}
@@ -12,7 +16,10 @@ use Rattle.pf_arguments.specs.declared.request.Request.TheVariants.{Do, Compare,
 use Rattle.pf_arguments.specs.declared.request.WordsFault.{WordsFault}
 use Rattle.pf_arguments.specs.declared.request.WordsFault.TheVariants.{Refused, Mistaken, NoMemory}
 use Rattle.pf_arguments.specs.CommandLine.{any_behind, is_named, kinds_of, program, text_behind}
-use Rattle.pf_arguments.specs.Asked.{IsAsked, IsMistakeText, IsRequest, IsShown, IsTextOf, ShowsError, desk_asked, desk_found, file_asked, file_found, mistake_found, pair_asked, pair_found, task_asked, task_found, telling_asked, telling_of}
+use Rattle.pf_arguments.specs.Help.{topic_asked, topic_named}
+use Rattle.pf_arguments.specs.Outputs.{output_asked, output_found, output_named}
+use Rattle.pf_arguments.specs.declared.output_words.OutputWords.{OutputWords}
+use Rattle.pf_arguments.specs.Asked.{AsksHelp, IsAsked, IsHelpText, IsMistakeText, IsRequest, IsShown, IsShownTo, IsTextOf, ShowsError, desk_asked, desk_found, file_asked, file_found, mistake_found, pair_asked, pair_found, task_asked, task_found, telling_asked, telling_of}
 
 -- one function after another over what may be there
 pub option_map-option_map : {X Y Z : Type 0} (f : Y → Z) (g : X → Y) (o : Option X) → option_map f (option_map g o) ≡ option_map (λ x. f (g x)) o
@@ -113,26 +120,71 @@ not_shown kind memory (inl help) = cc
 not_shown kind memory (inr version) = cc
 
 -- who is shown a text asked for help or the version
-kind_shown : (kind : ErrorKind) (text : Text) → IsTextOf (kind ≡ DisplayHelp) (kind ≡ DisplayVersion) text → IsShown kind
-kind_shown kind text (inl help) = inl help.0
-kind_shown kind text (inr version) = inr version.0
+kind_shown : (kind : ErrorKind) (words : List Text) (text : Text) → IsTextOf (kind ≡ DisplayHelp) (kind ≡ DisplayVersion) None words text → IsShown kind
+kind_shown kind words text (inl help) = inl help.0
+kind_shown kind words text (inr version) = inr version.0
+
+-- the kinds of error that `help` has are those of its first word
+pub help_asked : (words : List Text) → AsksHelp (codes "help" ∷ words)
+unfolding clap_on_literals kinds_of
+help_asked words = inl refl
+
+-- words that ask for a topic begin with `help`
+topic_after : (first : Text) (words : List Text) (topic : Option Text) (text : Text)
+    → (if bytes_eq first (codes "help") then topic else None) ≡ Some text → first ≡ codes "help"
+topic_after first words topic text is = by (bytes_eq first (codes "help")) (bytes_eq-Decides first (codes "help")) is
+  where
+    by : (b : Bool) → Decides b (first ≡ codes "help") → (if b then topic else None) ≡ Some text → first ≡ codes "help"
+    by true tells e = tells.0 refl
+    by false tells e = cc
+
+-- Use: words that ask for a topic ask for help, which is its text.
+pub topic_shown : (words : List Text) (topic text : Text) → topic_asked words ≡ Some topic → text ≡ topic → IsShownTo words text
+unfolding topic_asked
+topic_shown [] topic text asks is = cc
+topic_shown (first ∷ []) topic text asks is = cc
+topic_shown (first ∷ second ∷ []) topic text asks is =
+    let help = topic_after first (second ∷ []) (topic_named second) topic asks in
+    let asks_help : AsksHelp (first ∷ second ∷ []) = subst (λ (f : Text). AsksHelp (f ∷ second ∷ [])) (sym help) (help_asked (second ∷ [])) in
+    inl (asks_help, subst (λ (o : Option Text). IsHelpText o (first ∷ second ∷ []) text) (sym asks) is)
+topic_shown (first ∷ second ∷ third ∷ words) topic text asks is = cc
 
 -- words that it does not take, by the kind of its error
 pub untaken_words : (words : List Text) (kind : ErrorKind) (answer : Result Request WordsFault)
-    → (kind ≡ OutOfMemory) ⊎ IsAmong kind (kinds_of words) → ShowsError words kind answer → IsAsked words answer
-untaken_words words kind (Ok (Do task file telling)) among shows = absurd shows
-untaken_words words kind (Ok (Compare pair telling)) among shows = absurd shows
-untaken_words words kind (Ok (Sit desk)) among shows = absurd shows
-untaken_words words kind (Ok (Show text)) among shows = elim among [
-  | inl memory ↦ absurd (not_shown kind memory (kind_shown kind (string_bytes text) shows))
+    → (kind ≡ OutOfMemory) ⊎ IsAmong kind (kinds_of words) → topic_asked words ≡ None → ShowsError words kind answer → IsAsked words answer
+untaken_words words kind (Ok (Do task file telling)) among no_topic shows = absurd shows
+untaken_words words kind (Ok (Compare pair telling)) among no_topic shows = absurd shows
+untaken_words words kind (Ok (Sit desk)) among no_topic shows = absurd shows
+untaken_words words kind (Ok (Show text)) among no_topic shows = elim among [
+  | inl memory ↦ absurd (not_shown kind memory (kind_shown kind words (string_bytes text) shows))
   | inr here ↦ elim shows [
-    | inl help ↦ inl (subst (λ (k : ErrorKind). IsAmong k (kinds_of words)) help.0 here, help.1)
+    | inl help ↦ inl (
+      subst (λ (k : ErrorKind). IsAmong k (kinds_of words)) help.0 here,
+      subst (λ (o : Option Text). IsHelpText o words (string_bytes text)) (sym no_topic) help.1,
+    )
     | inr version ↦ inr (subst (λ (k : ErrorKind). IsAmong k (kinds_of words)) version.0 here, version.1)
   ]
 ]
-untaken_words words kind (Err (Refused text)) among shows = elim among [
+untaken_words words kind (Err (Refused text)) among no_topic shows = elim among [
   | inl memory ↦ absurd (shows.0 memory)
-  | inr here ↦ ((kind, shows.1, here), shows.2)
+  | inr here ↦ ((kind, shows.1, here, no_topic), shows.2)
 ]
-untaken_words words kind (Err (Mistaken line)) among shows = absurd shows
-untaken_words words kind (Err NoMemory) among shows = tt
+untaken_words words kind (Err (Mistaken line)) among no_topic shows = absurd shows
+untaken_words words kind (Err NoMemory) among no_topic shows = tt
+
+-- Use: the file for the answer, of words that the grammar takes, ..
+pub output_taken : (words : List Text) (found : Option (Text × List Row)) (made : Result (Option OutputWords) AllocError) → kinds_of words ≡ []
+    → found ≡ subcommand_of program words → IfOk made (λ o. output_named o ≡ output_found found) → IfOk made (λ o. output_named o ≡ output_asked words)
+unfolding output_asked
+output_taken words found (Ok output) taken is named = rw (taken, sym is) named
+output_taken words found (Err fault) taken is named = tt
+
+some_kinds : (kind : ErrorKind) (kinds : Kinds) → IsAmong kind kinds → is_empty kinds ≡ false
+some_kinds kind [] among = absurd among
+some_kinds kind (k ∷ kinds) among = ne_eqb (length (k ∷ kinds)) 0 (λ e. absurd (omega (arith, e)))
+
+-- .. and of others.
+pub output_untaken : (words : List Text) (kind : ErrorKind) → (kind ≡ OutOfMemory) ⊎ IsAmong kind (kinds_of words) → (kind ≡ OutOfMemory → ⊥) → None ≡ output_asked words
+unfolding output_asked
+output_untaken words kind (inl memory) other = absurd (other memory)
+output_untaken words kind (inr among) other = rw (some_kinds kind (kinds_of words) among) refl

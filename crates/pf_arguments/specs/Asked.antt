@@ -1,5 +1,5 @@
 -- What the words ask for.
-use Rattle.std.specs.Prelude.{◌≡◌, ◌≢◌, ◌⊎◌, ℕ, Bool, false, not, ◌&&◌, ◌||◌, true, is_some, if◌then◌else◌, List, [], ◌++◌, Option, Some, None, option_map, Result, Ok, Err, codes, unwrap_or, String, string_bytes, ⊤}
+use Rattle.std.specs.Prelude.{◌≡◌, ◌≢◌, ◌⊎◌, ℕ, Bool, false, not, ◌&&◌, ◌||◌, true, is_some, if◌then◌else◌, List, [], ◌++◌, Option, Some, None, option_map, Result, Ok, Err, codes, String, string_bytes, ⊤}
 use Rattle.std.specs.Result.{result_ok, result_err}
 use Rattle.std.specs.Str.{bytes_eq}
 use Rattle.std.specs.declared.alloc.Global.{Global}
@@ -20,7 +20,7 @@ use Rattle.pf_arguments.specs.declared.mistake.Mistake.TheVariants.{UnknownForma
 use Rattle.pf_arguments.specs.declared.desk_words.DeskWords.{DeskWords}
 use Rattle.pf_arguments.specs.declared.script_pair.ScriptPair.{ScriptPair}
 use Rattle.pf_arguments.specs.declared.telling.Telling.{Telling}
-use Rattle.pf_arguments.specs.declared.choices.TheConstants.{CONVERT_FORMATS, RUN_FORMATS, TEXT_FORMATS}
+use Rattle.pf_arguments.specs.declared.choices.TheConstants.{RUN_FORMATS, TEXT_FORMATS}
 use Rattle.pf_arguments.specs.Choices.{IsChoiceNote}
 use Rattle.pf_vocabulary.specs.declared.options.slot_range.SlotRange.{SlotRange}
 use Rattle.pf_vocabulary.specs.TaskWords.Reading.{words_in}
@@ -37,7 +37,8 @@ use Rattle.pf_arguments.specs.Desks.{DeskNames, desk_given}
 use Rattle.pf_arguments.specs.Diffs.{PairNames, are_two, diff_of, options_of, pair_given, pair_named, second_behind, since_of}
 use Rattle.pf_vocabulary.specs.Options.FailLists.{fail_on_named, on_nothing}
 use Rattle.pf_vocabulary.specs.Options.Formats.{format_named, format_with_cell, format_with_style, format_with_wrap, format_within}
-use Rattle.pf_arguments.specs.Texts.{EndsWithLesson, IsRefusal, mistake_line, version_line}
+use Rattle.pf_arguments.specs.Help.{topic_asked}
+use Rattle.pf_arguments.specs.Texts.{EndsWithLesson, IsRefusal, fixed_line, version_line}
 use Rattle.pf_arguments.specs.CommandLine.{any_flag, file_behind, has_flag, is_check, is_convert, is_desk, is_diff, is_drill, is_fit, is_why, kinds_of, program, text_behind, text_behind_run}
 use Rattle.pf_text.specs.Numbers.{number_of}
 use Rattle.pf_vocabulary.specs.Questions.Reading.{question_of}
@@ -47,7 +48,7 @@ use Rattle.pf_vocabulary.specs.declared.questions.question.Question.{Question}
 use Rattle.pf_convert.specs.Words.Reading.{ConvertTexts, IsConversion, conversion_of}
 use Rattle.pf_convert.specs.declared.words.conversion.Conversion.{Conversion}
 use Rattle.pf_convert.specs.declared.words.mistake.ConvertMistake.{ConvertMistake}
-use Rattle.pf_convert.specs.declared.words.mistake.ConvertMistake.TheVariants as converting
+use Rattle.pf_convert.specs.Words.Texts.{convert_mistake_text}
 
 -- without a name the format is `tables`
 abbrev pub format_or_tables : Option Text → Option Format
@@ -221,14 +222,15 @@ run_given (Ok format) tasks fail_on = run_listed format (tasks_given format task
 abbrev pub run_of : Option (Text × List Row) → Result Task Mistake
 run_of found = run_given (format_of found) (text_behind_run (codes "task") found) (fail_on_given (text_behind_run (codes "fail-on") found))
 
--- the texts of a conversion, by what was found of a subcommand; there always is a quantum
+-- the texts of a conversion, by what was found of a subcommand
 abbrev pub convert_texts : Option (Text × List Row) → ConvertTexts
 convert_texts found = record {
   format = text_behind (codes "convert") (codes "format") found;
   unit = text_behind (codes "convert") (codes "unit") found;
-  quantum = unwrap_or (text_behind (codes "convert") (codes "quantum") found) [];
+  quantum = text_behind (codes "convert") (codes "quantum") found;
   switch = text_behind (codes "convert") (codes "switch") found;
   processors = text_behind (codes "convert") (codes "processors") found;
+  arrivals = text_behind (codes "convert") (codes "arrivals") found;
 }
 
 -- to convert a list so
@@ -294,10 +296,19 @@ is_file name = is_some (file_of name)
 abbrev pub names_file : Option (Text × List Row) → Bool
 names_file found = is_file (file_behind found) || is_file (second_behind found)
 
--- what is to be told: notes of a file, and where `--notes` is there; how a script or a list ends where it has no word; nothing where `--quiet` is
+-- messages are short where nothing asks for more: those of a run, with or without its word, and of a drill
+abbrev pub is_short : Option (Text × List Row) → Bool
+is_short None = true
+is_short (Some (name, rows)) = bytes_eq name (codes "run") || bytes_eq name (codes "drill")
+
+abbrev pub is_whole : Option (Text × List Row) → Bool
+is_whole found = not (is_short found) || any_flag (codes "notes") found || names_file found
+
+-- what is to be told: whole messages, hints and notes with them but where `--quiet` is; how a script or a list ends where it has no word
 abbrev pub telling_of : Option (Text × List Row) → Telling
 telling_of found = record {
-  notes = not (any_flag (codes "quiet") found) && (any_flag (codes "notes") found || names_file found);
+  whole = is_whole found;
+  notes = is_whole found && not (any_flag (codes "quiet") found);
   prompt = not (any_flag (codes "quiet") found) && not (is_some (file_behind found)) && not (is_desk found);
 }
 
@@ -305,13 +316,17 @@ telling_of found = record {
 abbrev pub choices_of : Option (Text × List Row) → Mistake → Option Text
 choices_of found UnknownFormat = Some (if is_fit found then TEXT_FORMATS.now else RUN_FORMATS.now)
 choices_of found (why.Why asking.Format) = Some TEXT_FORMATS.now
-choices_of found (why.Convert converting.Format) = Some CONVERT_FORMATS.now
 choices_of found mistake = None
+
+-- what is told of words that the grammar takes, but that ask for nothing, before such names
+abbrev pub mistake_line : Option (Text × List Row) → Mistake → List ℕ
+mistake_line found (why.Convert mistake) = convert_mistake_text (convert_texts found) mistake
+mistake_line found mistake = fixed_line mistake
 
 -- what is told of a mistake: its line, and where notes are told, these names
 abbrev pub IsMistakeText : Option (Text × List Row) → Mistake → List ℕ → Type 0
 IsMistakeText found mistake text =
-    (note : List ℕ) × IsChoiceNote (if (telling_of found).notes then choices_of found mistake else None) note × (text ≡ mistake_line mistake ++ note)
+    (note : List ℕ) × IsChoiceNote (if (telling_of found).notes then choices_of found mistake else None) note × (text ≡ mistake_line found mistake ++ note)
 
 -- the two scripts that are to be compared
 abbrev pub pair_of : Option (Text × List Row) → Result PairNames Mistake
@@ -346,7 +361,7 @@ file_asked words = if is_empty (kinds_of words) then file_found (subcommand_of p
 
 -- what the words ask to be told; nothing where the grammar does not take them
 unfoldable pub telling_asked : List Text → Telling
-telling_asked words = if is_empty (kinds_of words) then telling_of (subcommand_of program words) else record { notes = false; prompt = false }
+telling_asked words = if is_empty (kinds_of words) then telling_of (subcommand_of program words) else record { whole = false; notes = false; prompt = false }
 
 -- the text of a file's name
 abbrev pub name_of : Option (String Global) → Option Text
@@ -375,21 +390,26 @@ AsksHelp words = IsAmong DisplayHelp (kinds_of words)
 abbrev pub AsksVersion : List Text → Type 0
 AsksVersion words = IsAmong DisplayVersion (kinds_of words)
 
--- the text of help ends with the lesson, and that of the version is its line
-abbrev pub IsTextOf : (help version : Type 0) → Text → Type 0
-IsTextOf help version text = (help × EndsWithLesson text) ⊎ (version × (text ≡ version_line))
+-- the text of a topic is its own, and that of help ends with the lesson that the words ask for
+abbrev pub IsHelpText : Option Text → List Text → Text → Type 0
+IsHelpText (Some topic) words text = text ≡ topic
+IsHelpText None words text = EndsWithLesson words text
+
+-- the text is one of help, of a topic or none, or it is the line of the version
+abbrev pub IsTextOf : (help version : Type 0) → Option Text → List Text → Text → Type 0
+IsTextOf help version topic words text = (help × IsHelpText topic words text) ⊎ (version × (text ≡ version_line))
 
 -- the text is what the words may ask to be shown
 abbrev pub IsShownTo : List Text → Text → Type 0
-IsShownTo words text = IsTextOf (AsksHelp words) (AsksVersion words) text
+IsShownTo words text = IsTextOf (AsksHelp words) (AsksVersion words) (topic_asked words) words text
 
 -- an error of this kind shows a text that was asked for: help, or the version
 abbrev pub IsShown : ErrorKind → Type 0
 IsShown kind = (kind ≡ DisplayHelp) ⊎ (kind ≡ DisplayVersion)
 
--- the grammar may refuse the words
+-- the grammar may refuse the words, which ask for no topic
 abbrev pub IsRefused : List Text → Type 0
-IsRefused words = (kind : ErrorKind) × ¬ IsShown kind × IsAmong kind (kinds_of words)
+IsRefused words = (kind : ErrorKind) × ¬ IsShown kind × IsAmong kind (kinds_of words) × (topic_asked words ≡ None)
 
 -- the grammar takes the words, and they are mistaken
 abbrev pub AreMistaken : List Text → Mistake → Type 0
@@ -427,7 +447,7 @@ abbrev pub ShowsError : List Text → ErrorKind → Result Request WordsFault �
 ShowsError words kind (Ok (Do task file telling)) = ⊥
 ShowsError words kind (Ok (Compare pair telling)) = ⊥
 ShowsError words kind (Ok (Sit desk)) = ⊥
-ShowsError words kind (Ok (Show text)) = IsTextOf (kind ≡ DisplayHelp) (kind ≡ DisplayVersion) (string_bytes text)
+ShowsError words kind (Ok (Show text)) = IsTextOf (kind ≡ DisplayHelp) (kind ≡ DisplayVersion) None words (string_bytes text)
 ShowsError words kind (Err (Refused text)) = (kind ≢ OutOfMemory) × ¬ IsShown kind × IsRefusal words text.items
 ShowsError words kind (Err (Mistaken text)) = ⊥
 ShowsError words kind (Err NoMemory) = Unit {0}

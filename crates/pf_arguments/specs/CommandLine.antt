@@ -27,9 +27,12 @@ with_letter letter rule = record rule { short = Some letter }
 abbrev pub required : Rule → Rule
 required rule = record rule { required = true }
 
--- the option `--format`, or `-f`, the flags `--notes` and `--quiet`, or `-q`, and FILE, which several subcommands have
+-- the options `--format`, or `-f`, and `--output`, or `-o`, the flags `--notes` and `--quiet`, or `-q`, and FILE, which several subcommands have
 abbrev pub format_option : Rule
 format_option = with_letter 102 (text_option (codes "format"))
+
+abbrev pub output_option : Rule
+output_option = with_letter 111 (text_option (codes "output"))
 
 abbrev pub notes_flag : Rule
 notes_flag = flag_named (codes "notes")
@@ -46,32 +49,32 @@ command name rules = record (new_shape name) { rules = rules }
 
 abbrev pub run_command : Shape
 run_command = command (codes "run")
-    (format_option ∷ text_option (codes "from") ∷ text_option (codes "to") ∷ text_option (codes "cell") ∷ text_option (codes "wrap")
-    ∷ text_option (codes "style") ∷ text_option (codes "task") ∷ text_option (codes "fail-on") ∷ notes_flag ∷ quiet_flag ∷ file_argument ∷ [])
+    (format_option ∷ output_option ∷ text_option (codes "from") ∷ text_option (codes "to") ∷ text_option (codes "task") ∷ text_option (codes "fail-on")
+    ∷ text_option (codes "cell") ∷ text_option (codes "wrap") ∷ text_option (codes "style") ∷ notes_flag ∷ quiet_flag ∷ file_argument ∷ [])
 
 abbrev pub check_command : Shape
-check_command = command (codes "check") (flag_named (codes "run") ∷ quiet_flag ∷ file_argument ∷ [])
+check_command = command (codes "check") (flag_named (codes "run") ∷ output_option ∷ quiet_flag ∷ file_argument ∷ [])
 
 -- `diff`, which may have a second file
 abbrev pub diff_command : Shape
 diff_command = command (codes "diff")
-    (text_option (codes "since") ∷ flag_named (codes "summary") ∷ flag_named (codes "exit-code") ∷ notes_flag ∷ quiet_flag ∷ file_argument
-    ∷ text_argument (codes "second") ∷ [])
+    (text_option (codes "since") ∷ flag_named (codes "summary") ∷ flag_named (codes "exit-code") ∷ output_option ∷ notes_flag
+    ∷ quiet_flag ∷ file_argument ∷ text_argument (codes "second") ∷ [])
 
 abbrev pub drill_command : Shape
 drill_command = command (codes "drill") (notes_flag ∷ quiet_flag ∷ [])
 
 abbrev pub why_command : Shape
 why_command = command (codes "why")
-    (required (text_argument (codes "slot")) ∷ text_option (codes "task") ∷ format_option ∷ notes_flag ∷ quiet_flag ∷ file_argument ∷ [])
+    (required (text_argument (codes "slot")) ∷ text_option (codes "task") ∷ format_option ∷ output_option ∷ notes_flag ∷ quiet_flag ∷ file_argument ∷ [])
 
 abbrev pub convert_command : Shape
 convert_command = command (codes "convert")
-    (required (text_option (codes "quantum")) ∷ text_option (codes "processors") ∷ text_option (codes "switch") ∷ text_option (codes "unit") ∷ format_option
-    ∷ file_argument ∷ [])
+    (text_option (codes "quantum") ∷ text_option (codes "processors") ∷ text_option (codes "switch") ∷ text_option (codes "arrivals")
+    ∷ text_option (codes "unit") ∷ format_option ∷ output_option ∷ file_argument ∷ [])
 
 abbrev pub fit_command : Shape
-fit_command = command (codes "fit") (format_option ∷ file_argument ∷ [])
+fit_command = command (codes "fit") (format_option ∷ output_option ∷ file_argument ∷ [])
 
 abbrev pub desk_command : Shape
 desk_command = command (codes "desk") (flag_named (codes "json") ∷ text_option (codes "journal") ∷ quiet_flag ∷ file_argument ∷ [])
@@ -85,7 +88,7 @@ program_with commands = record {
 
 abbrev pub program : App
 program = program_with
-    (run_command ∷ check_command ∷ diff_command ∷ drill_command ∷ why_command ∷ convert_command ∷ fit_command ∷ desk_command ∷ [])
+    (fit_command ∷ run_command ∷ why_command ∷ check_command ∷ diff_command ∷ convert_command ∷ desk_command ∷ drill_command ∷ [])
 
 -- the kinds of error by which the grammar does not take the words; it takes them where there is none
 unfoldable pub kinds_of : List Text → Kinds

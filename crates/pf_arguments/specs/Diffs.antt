@@ -1,7 +1,5 @@
 -- What words ask a diff for.
-use Rattle.std.specs.Prelude.{ℕ, ◌==◌, Bool, false, is_some, if◌then◌else◌, List, Option, None, Some, Result, Ok, Err, codes}
-use Rattle.std.specs.Option.{option_map_or}
-use Rattle.std.specs.Str.{bytes_eq}
+use Rattle.std.specs.Prelude.{ℕ, ◌==◌, Bool, is_some, if◌then◌else◌, List, Option, None, Some, Result, Ok, Err, codes}
 use Rattle.clap.specs.Words.{Row, Text}
 use Rattle.pf_text.specs.Numbers.{number_of}
 use Rattle.pf_vocabulary.specs.declared.options.diff_options.DiffOptions.{DiffOptions}

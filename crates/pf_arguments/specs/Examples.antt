@@ -6,6 +6,7 @@ use Rattle.pf_vocabulary.specs.declared.options.fail_on.FailOn.{FailOn}
 use Rattle.pf_vocabulary.specs.declared.options.format.Format.TheVariants.{Schedule, Tables, Json, Jobs, Lags, Script, Chart, Svg, Windows}
 use Rattle.pf_convert.specs.declared.words.conversion.Conversion.{Conversion}
 use Rattle.pf_convert.specs.declared.words.conversion.ConvertFormat.TheVariants as made
+use Rattle.pf_convert.specs.declared.words.arrivals.Arrivals.TheVariants.{Aligned, Any}
 use Rattle.pf_convert.specs.declared.words.mistake.ConvertMistake.TheVariants.{Format, Quantum, Processors, SwitchNotBelow, SeveralQuanta}
 use Rattle.pf_vocabulary.specs.declared.names.unit.Unit.TheVariants.{Millisecond, Microsecond}
 use Rattle.pf_arguments.specs.declared.mistake.Mistake.TheVariants as why
@@ -31,6 +32,11 @@ use Rattle.pf_arguments.specs.declared.telling.Telling.{Telling}
 use Rattle.pf_arguments.specs.declared.task.Task.TheVariants.{Run, RunTasks, Check, CheckRun, Diff, Drill, Convert, Fit, Why}
 use Rattle.pf_vocabulary.specs.declared.options.fit_format.FitFormat.TheVariants.{Text as FitText, Json as FitJson}
 use Rattle.pf_vocabulary.specs.declared.options.diff_options.DiffOptions.{DiffOptions}
+use Rattle.pf_arguments.specs.Help.{help_hint, lesson_of, topic_asked}
+use Rattle.pf_arguments.specs.declared.lessons.program.TheConstants.{PROGRAM}
+use Rattle.pf_arguments.specs.declared.lessons.run.TheConstants.{RUN}
+use Rattle.pf_arguments.specs.declared.topics.plan.TheConstants.{PLAN}
+use Rattle.pf_arguments.specs.declared.topics.status.TheConstants.{STATUS}
 use Rattle.pf_arguments.specs.Asked.{task_asked, pair_asked, desk_asked, file_asked, telling_asked, reads_input, AsksHelp, AsksVersion, IsRefused, AreMistaken}
 
 -- words that ask for a run
@@ -195,18 +201,20 @@ pub record Compared : Type 0 where
 
 -- words that ask for a list of tasks to be converted
 abbrev pub whole_script : ℕ → Conversion
-whole_script quantum = record { format = made.Script; unit = Millisecond; quanta = quantum ∷ []; switch = 0; processors = None }
+whole_script quantum = record { format = made.Script; unit = None; quanta = quantum ∷ []; switch = 0; processors = None; arrivals = Aligned }
 
 pub record Conversions : Type 0 where
   pub alone : task_asked (codes "convert" ∷ codes "--quantum" ∷ codes "0.5" ∷ []) ≡ Some (Convert (whole_script 500000))
   pub several : task_asked (codes "convert" ∷ codes "--quantum=1,0.5" ∷ codes "--switch" ∷ codes "0.02" ∷ codes "--processors" ∷ codes "4" ∷ [])
-      ≡ Some (Convert (record { format = made.Table; unit = Millisecond; quanta = 1000000 ∷ 500000 ∷ []; switch = 20000; processors = Some 4 }))
+      ≡ Some (Convert (record { format = made.Table; unit = None; quanta = 1000000 ∷ 500000 ∷ []; switch = 20000; processors = Some 4; arrivals = Aligned }))
   pub in_json : task_asked (codes "convert" ∷ codes "-f" ∷ codes "json" ∷ codes "--unit" ∷ codes "us" ∷ codes "--quantum" ∷ codes "25" ∷ [])
-      ≡ Some (Convert (record { format = made.Json; unit = Microsecond; quanta = 25000 ∷ []; switch = 0; processors = None }))
+      ≡ Some (Convert (record { format = made.Json; unit = Some Microsecond; quanta = 25000 ∷ []; switch = 0; processors = None; arrivals = Aligned }))
   pub of_file : file_asked (codes "convert" ∷ codes "--quantum" ∷ codes "1" ∷ codes "tasks.csv" ∷ []) ≡ Some (codes "tasks.csv")
   pub dash : file_asked (codes "convert" ∷ codes "--quantum" ∷ codes "1" ∷ codes "-" ∷ []) ≡ None
-  -- no quantum, a quantum of nothing, one that stands twice, and more processors than there may be
-  pub without : IsRefused (codes "convert" ∷ codes "tasks.csv" ∷ [])
+  -- without a quantum, and with jobs that arrive at any time
+  pub found : task_asked (codes "convert" ∷ codes "--arrivals" ∷ codes "any" ∷ codes "tasks.csv" ∷ [])
+      ≡ Some (Convert (record { format = made.Script; unit = None; quanta = []; switch = 0; processors = None; arrivals = Any }))
+  -- a quantum of nothing, one that stands twice, and more processors than there may be
   pub nothing : AreMistaken (codes "convert" ∷ codes "--quantum" ∷ codes "0" ∷ []) (why.Convert Quantum)
   pub twice : AreMistaken (codes "convert" ∷ codes "--quantum" ∷ codes "1,0.5,1.0" ∷ []) (why.Convert Quantum)
   pub many : AreMistaken (codes "convert" ∷ codes "--quantum" ∷ codes "1" ∷ codes "--processors" ∷ codes "65" ∷ []) (why.Convert Processors)
@@ -276,21 +284,36 @@ pub record Desks : Type 0 where
   pub noted : IsRefused (codes "desk" ∷ codes "--notes" ∷ [])
   pub help : AsksHelp (codes "desk" ∷ codes "--help" ∷ [])
 
+-- words that ask for a topic of help, for the help of a command, and for neither
+pub record Helped : Type 0 where
+  pub plan : topic_asked (codes "help" ∷ codes "plan" ∷ []) ≡ Some PLAN.now
+  pub status : topic_asked (codes "help" ∷ codes "status" ∷ []) ≡ Some STATUS.now
+  pub command : topic_asked (codes "help" ∷ codes "run" ∷ []) ≡ None
+  pub asked : AsksHelp (codes "help" ∷ codes "run" ∷ [])
+  pub lesson : lesson_of (codes "help" ∷ codes "run" ∷ []) ≡ RUN.now
+  pub behind : lesson_of (codes "run" ∷ codes "--help" ∷ []) ≡ RUN.now
+  pub whole : lesson_of (codes "--help" ∷ []) ≡ PROGRAM.now
+  -- a topic and a word more, and a topic alone
+  pub more : IsRefused (codes "help" ∷ codes "plan" ∷ codes "plan" ∷ [])
+  pub alone : IsRefused (codes "plan" ∷ [])
+  -- a hint is for `help` alone
+  pub no_hint : help_hint (codes "run" ∷ codes "rn" ∷ []) ≡ []
+
 -- what words ask to be told
-abbrev pub tells : Bool → Bool → Telling
-tells notes prompt = record { notes = notes; prompt = prompt }
+abbrev pub tells : Bool → Bool → Bool → Telling
+tells whole notes prompt = record { whole = whole; notes = notes; prompt = prompt }
 
 pub record Told : Type 0 where
-  pub none : telling_asked [] ≡ tells false true
-  pub of_file : telling_asked (codes "run" ∷ codes "plan.csv" ∷ []) ≡ tells true false
-  pub dash : telling_asked (codes "run" ∷ codes "-" ∷ []) ≡ tells false false
-  pub asked : telling_asked (codes "drill" ∷ codes "--notes" ∷ []) ≡ tells true true
-  pub checked : telling_asked (codes "check" ∷ codes "plan.csv" ∷ codes "-q" ∷ []) ≡ tells false false
-  pub quiet : telling_asked (codes "why" ∷ codes "3" ∷ codes "--quiet" ∷ codes "--notes" ∷ codes "plan.csv" ∷ []) ≡ tells false false
-  pub second : telling_asked (codes "diff" ∷ codes "-" ∷ codes "b.csv" ∷ []) ≡ tells true false
-  pub list : telling_asked (codes "convert" ∷ codes "--quantum" ∷ codes "1" ∷ []) ≡ tells false true
-  pub either : telling_asked (codes "fit" ∷ []) ≡ tells false true
-  pub fits : telling_asked (codes "fit" ∷ codes "plan.csv" ∷ []) ≡ tells true false
+  pub none : telling_asked [] ≡ tells false false true
+  pub of_file : telling_asked (codes "run" ∷ codes "plan.csv" ∷ []) ≡ tells true true false
+  pub dash : telling_asked (codes "run" ∷ codes "-" ∷ []) ≡ tells false false false
+  pub asked : telling_asked (codes "drill" ∷ codes "--notes" ∷ []) ≡ tells true true true
+  pub checked : telling_asked (codes "check" ∷ codes "plan.csv" ∷ codes "-q" ∷ []) ≡ tells true false false
+  pub quiet : telling_asked (codes "why" ∷ codes "3" ∷ codes "--quiet" ∷ codes "--notes" ∷ codes "plan.csv" ∷ []) ≡ tells true false false
+  pub second : telling_asked (codes "diff" ∷ codes "-" ∷ codes "b.csv" ∷ []) ≡ tells true true false
+  pub list : telling_asked (codes "convert" ∷ codes "--quantum" ∷ codes "1" ∷ []) ≡ tells true true true
+  pub either : telling_asked (codes "fit" ∷ []) ≡ tells true true true
+  pub fits : telling_asked (codes "fit" ∷ codes "plan.csv" ∷ []) ≡ tells true true false
   -- two commands without these flags
   pub of_a_fit : IsRefused (codes "fit" ∷ codes "--notes" ∷ [])
   pub of_a_check : IsRefused (codes "check" ∷ codes "--notes" ∷ [])
@@ -319,6 +342,7 @@ pub record WorkedWords : Type 0 where
   pub reasons : Reasons
   pub fitting : Fitting
   pub desks : Desks
+  pub helped : Helped
   pub told : Told
   pub showable : Showable
   pub check : task_asked (codes "check" ∷ []) ≡ Some Check

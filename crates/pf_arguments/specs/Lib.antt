@@ -4,7 +4,9 @@ pub mod CommandLine
 pub mod Desks
 pub mod Diffs
 pub mod Examples
+pub mod Help
 pub mod Lines
+pub mod Outputs
 pub mod Rows
 pub mod Texts
 pub mod Tips

@@ -1,24 +1,24 @@
 -- What is told of words that ask for no task.
 use Rattle.std.specs.Prelude.{ℕ, ◌≡◌, ◌≢◌, List, [], ◌++◌, codes}
+use Rattle.pf_arguments.specs.Help.{help_hint, lesson_of}
 use Rattle.pf_arguments.specs.Tips.Tips.{tip_of}
-use Rattle.pf_convert.specs.Words.Texts.{convert_mistake_line}
 use Rattle.pf_arguments.specs.Lines.{shown_lines}
 use Rattle.pf_arguments.specs.declared.mistake.Mistake.{Mistake}
 use Rattle.pf_arguments.specs.declared.mistake.Mistake.TheVariants.{UnknownFormat, BadNumber, NoRange, Unranged, BadCell, NoCell, BadWrap, NoWrap, BadStyle, NoStyle, BadTasks, NoTasks, BadFailOn, BadSince, SinceOfTwo, InputTwice, Convert, Why}
 use Rattle.pf_vocabulary.specs.Questions.Reading.{mistake_text}
-use Rattle.pf_arguments.specs.declared.texts.TheConstants.{LESSON, VERSION}
+use Rattle.pf_arguments.specs.declared.texts.TheConstants.{VERSION}
 
 -- the version, as a line
 abbrev pub version_line : List ℕ
 version_line = codes "pfair " ++ (VERSION.now ++ codes "\n")
 
--- the text ends with the lesson that help teaches, as a line
-abbrev pub EndsWithLesson : List ℕ → Type 0
-EndsWithLesson text = (words : List ℕ) × (text ≡ words ++ (LESSON.now ++ codes "\n"))
+-- the text ends with the lesson that these words ask for
+abbrev pub EndsWithLesson : List (List ℕ) → List ℕ → Type 0
+EndsWithLesson words text = (front : List ℕ) × (text ≡ front ++ lesson_of words)
 
--- why the grammar does not take the words, which is some text, shown as lines are, and the tip for them
+-- why the grammar does not take the words, which is some text, shown as lines are, and the hint and the tip for them
 abbrev pub IsRefusal : List (List ℕ) → List ℕ → Type 0
-IsRefusal words text = (why : List ℕ) × (shown_lines why ≢ []) × (text ≡ shown_lines why ++ tip_of words)
+IsRefusal words text = (why : List ℕ) × (shown_lines why ≢ []) × (text ≡ (shown_lines why ++ help_hint words) ++ tip_of words)
 
 -- the line of a mistake that always has the same one
 abbrev pub fixed_line : Mistake → List ℕ
@@ -40,8 +40,3 @@ fixed_line SinceOfTwo = codes "--since is for one script\n"
 fixed_line InputTwice = codes "standard input is read once\n"
 fixed_line (Convert mistake) = []
 fixed_line (Why mistake) = mistake_text mistake
-
--- what is told of words that the grammar takes, but that ask for nothing
-abbrev pub mistake_line : Mistake → List ℕ
-mistake_line (Convert mistake) = convert_mistake_line mistake
-mistake_line mistake = fixed_line mistake

@@ -16,7 +16,7 @@ pub(crate) struct Argument {
     pub form: Form,
     /// Whether it has to be there.
     pub is_required: bool,
-    /// What help says of it.
+    /// What help says of it; an argument without a text is taken, and not shown.
     pub help: &'static str,
 }
 
@@ -28,6 +28,7 @@ impl Argument {
     {
         let arg = Arg::new(alloc, self.name)
             .help(self.help)
+            .hide(self.help.is_empty())
             .required(self.is_required);
         let arg = match self.letter {
             Some(letter) => arg.short(letter),

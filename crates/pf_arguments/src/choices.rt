@@ -2,14 +2,14 @@
 ghost use Rattle.std.specs.Prelude.{◌≡◌, ◌++◌, List, ℕ, IfOk, OnOk};
 ghost use Rattle.std.specs.Option.{option_map};
 ghost use Rattle.clap.specs.Words.{subcommand_rows_of};
-ghost use Rattle.pf_arguments.specs.Asked.{IsMistakeText, choices_of};
+ghost use Rattle.pf_arguments.specs.Asked.{IsMistakeText, choices_of, mistake_line};
 ghost use Rattle.pf_arguments.specs.Choices.{IsChoiceNote, IsTip, choices_text, tip_text};
 
+use crate::conversion_words::convert_words;
 use crate::mistake::Mistake;
 use crate::telling_words::{any_text, read_telling};
 use crate::words::is_asked;
 use clap::ArgMatches;
-use pf_convert::words::mistake::ConvertMistake;
 use pf_vocabulary::questions::mistake::WhyMistake;
 use std::alloc::{AllocError, Global};
 use strsim::jaro;
@@ -20,9 +20,6 @@ pub const RUN_FORMATS: &str =
 
 /// The names of the formats of a fit, and of what is told of a slot.
 pub const TEXT_FORMATS: &str = "text, json";
-
-/// The names of the formats of a conversion.
-pub const CONVERT_FORMATS: &str = "script, table, json";
 
 // A name is near a word where their likeness is above this, of 0 to 1.
 const NEAR: f64 = 0.7;
@@ -37,13 +34,28 @@ pub(crate) fn mistake_text(
     ensures { IfOk result (λ text. IsMistakeText (subcommand_rows_of matches.now) mistake text.items) }
 {
     let mut text = Vec::new(alloc);
-    mistake.push_line(&mut text)?;
+    push_mistake(alloc, &mut text, matches, mistake)?;
     if !read_telling(matches).notes {
         return Ok(text);
     }
     let word = any_text(matches, "format").unwrap_or("");
     text.extend_from_slice(&choice_note(alloc, word, choices_of(matches, mistake))?)?;
     Ok(text)
+}
+
+/// Adds what is told of a mistake, before such names.
+fn push_mistake(
+    alloc: Global,
+    text: &mut Vec<u8>,
+    matches: &ArgMatches<'_>,
+    mistake: Mistake,
+) -> Result<(), AllocError>
+    ensures { OnOk result (text.new.items ≡ text.old.items ++ mistake_line (subcommand_rows_of matches.now) mistake) }
+{
+    match mistake {
+        Mistake::Convert(mistake) => mistake.push_lines(alloc, &convert_words(matches), text),
+        _ => text.extend_from_slice(mistake.fixed_line().as_bytes()),
+    }
 }
 
 /// The names that the text of `--format` is none of, where that is the mistake.
@@ -54,7 +66,6 @@ fn choices_of(matches: &ArgMatches<'_>, mistake: Mistake) -> Option<&'static str
         Mistake::UnknownFormat if is_asked(matches, "fit") => Some(TEXT_FORMATS),
         Mistake::UnknownFormat => Some(RUN_FORMATS),
         Mistake::Why(WhyMistake::Format) => Some(TEXT_FORMATS),
-        Mistake::Convert(ConvertMistake::Format) => Some(CONVERT_FORMATS),
         _ => None,
     }
 }

@@ -10,23 +10,21 @@ use clap::Command;
 use std::alloc::{AllocError, Global};
 
 // What `--help` says of the program.
-const ABOUT: &str =
-    "Schedules periodic tasks on processors slot by slot (Pfair, the order PD2), as a script says. \
-The script is read from FILE or standard input, and the answer is written to standard output.";
+const ABOUT: &str = "Schedules periodic tasks on processors, slot by slot (Pfair, by PD2)";
 
 /// The words that the program knows.
 pub(crate) fn program<'a>(alloc: Global) -> Result<Command<'a>, AllocError>
     ensures { IfOk result (λ c. app_of c ≡ program) }
 {
     let subcommands = [
+        fit(),
         run(),
+        why(),
         check(),
         diff(),
-        drill(),
-        why(),
         convert(),
-        fit(),
         desk(),
+        drill(),
     ];
     program_with(alloc, &subcommands)
 }

@@ -22,15 +22,16 @@ pub(crate) fn read_convert(matches: &ArgMatches<'_>) -> Result<Task, Mistake>
 }
 
 /// The texts of the words of a conversion.
-fn convert_words<'a>(matches: &ArgMatches<'a>) -> ConvertWords<'a>
+pub(crate) fn convert_words<'a>(matches: &ArgMatches<'a>) -> ConvertWords<'a>
     ensures { texts_of result ≡ convert_texts (subcommand_rows_of matches.now) }
 {
     ConvertWords {
         format: convert_text(matches, "format"),
         unit: convert_text(matches, "unit"),
-        quantum: convert_text(matches, "quantum").unwrap_or(b""),
+        quantum: convert_text(matches, "quantum"),
         switch: convert_text(matches, "switch"),
         processors: convert_text(matches, "processors"),
+        arrivals: convert_text(matches, "arrivals"),
     }
 }
 

@@ -1,9 +1,8 @@
-ghost use Rattle.std.specs.Prelude.{◌≡◌, ◌++◌, OnOk};
-ghost use Rattle.pf_arguments.specs.Texts.{fixed_line, mistake_line};
+ghost use Rattle.std.specs.Prelude.{◌≡◌};
+ghost use Rattle.pf_arguments.specs.Texts.{fixed_line};
 
 use pf_convert::words::mistake::ConvertMistake;
 use pf_vocabulary::questions::mistake::WhyMistake;
-use std::alloc::AllocError;
 
 /// Why words that the grammar takes ask for nothing.
 #[derive(Clone, Copy)]
@@ -47,22 +46,8 @@ pub enum Mistake {
 }
 
 impl Mistake {
-    /// Adds what is told of it, as a line.
-    ///
-    /// # Errors
-    ///
-    /// Where memory is refused: a front of it was added.
-    pub fn push_line(self, text: &mut Vec<u8>) -> Result<(), AllocError>
-        ensures { OnOk result (text.new.items ≡ text.old.items ++ mistake_line self) }
-    {
-        match self {
-            Mistake::Convert(mistake) => mistake.push_line(text),
-            _ => text.extend_from_slice(self.fixed_line().as_bytes()),
-        }
-    }
-
     /// The line of a mistake that always has the same one; nothing for any other.
-    fn fixed_line(self) -> &'static str
+    pub(crate) fn fixed_line(self) -> &'static str
         ensures { result.now ≡ fixed_line self }
     {
         match self {

@@ -7,13 +7,26 @@ use crate::argument::Argument;
 use crate::form::Form;
 use crate::subcommand::Subcommand;
 
+/// `fit`.
+pub(crate) fn fit() -> Subcommand
+    ensures { shape_of_subcommand result ≡ fit_command }
+{
+    Subcommand {
+        name: "fit",
+        about: "Tells whether a plan fits, and what that rests on",
+        arguments: FIT,
+    }
+}
+
+const FIT: &[Argument] = &[TEXT_OR_JSON, OUTPUT, FILE];
+
 /// `run`, also asked for by no words at all.
 pub(crate) fn run() -> Subcommand
     ensures { shape_of_subcommand result ≡ run_command }
 {
     Subcommand {
         name: "run",
-        about: "Runs the script; also without any words",
+        about: "Runs a plan or script; also without any words",
         arguments: RUN,
     }
 }
@@ -24,142 +37,68 @@ const RUN: &[Argument] = &[
         letter: Some('f'),
         form: Form::Named("FORMAT"),
         is_required: false,
-        help: "one of the formats below [default: tables]",
+        help: "how it is shown, see below [default: tables]",
     },
+    OUTPUT,
     Argument {
         name: "from",
         letter: None,
         form: Form::Named("F"),
         is_required: false,
-        help: "schedule, chart, svg, windows, load, quanta: the first slot that is shown [default: 0]",
+        help: "the first slot that is shown [default: 0]",
     },
     Argument {
         name: "to",
         letter: None,
         form: Form::Named("T"),
         is_required: false,
-        help: "schedule, chart, svg, windows, load, quanta: the slots below T are shown [default: all that were stepped]",
-    },
-    Argument {
-        name: "cell",
-        letter: None,
-        form: Form::Named("W"),
-        is_required: false,
-        help: "svg: how wide each slot is, 6 to 40 [default: 20]",
-    },
-    Argument {
-        name: "wrap",
-        letter: None,
-        form: Form::Named("V"),
-        is_required: false,
-        help: "svg: how many slots stand side by side, 1 to 4096 [default: all]",
-    },
-    Argument {
-        name: "style",
-        letter: None,
-        form: Form::Named("NAME"),
-        is_required: false,
-        help: "svg: strips (lags below windows) or stairs (windows below one another) [default: strips]",
+        help: "the slots below T are shown [default: all stepped]",
     },
     Argument {
         name: "task",
         letter: None,
         form: Form::Named("LIST"),
         is_required: false,
-        help: "windows, jobs, quanta, stats, lags, misses, chart, svg: these tasks alone, as 3,7-9",
+        help: "these tasks alone: numbers, ranges, names: 3,7-9",
     },
     Argument {
         name: "fail-on",
         letter: None,
         form: Form::Named("LIST"),
         is_required: false,
-        help: "refused, denied, missed, joined by commas: status 6 where one of them was met",
+        help: "refused, denied, missed: status 6 if one was met",
     },
-    NOTES,
-    QUIET,
-    FILE,
-];
-
-/// `check`.
-pub(crate) fn check() -> Subcommand
-    ensures { shape_of_subcommand result ≡ check_command }
-{
-    Subcommand {
-        name: "check",
-        about: "Checks the script: a line for each record that is none, and where and why",
-        arguments: CHECK,
-    }
-}
-
-const CHECK: &[Argument] = &[
     Argument {
-        name: "run",
+        name: "cell",
+        letter: None,
+        form: Form::Named("W"),
+        is_required: false,
+        help: "svg: how wide a slot is, 6 to 40 [default: 20]",
+    },
+    Argument {
+        name: "wrap",
+        letter: None,
+        form: Form::Named("V"),
+        is_required: false,
+        help: "svg: slots side by side, 1 to 4096 [default: all]",
+    },
+    Argument {
+        name: "style",
+        letter: None,
+        form: Form::Named("NAME"),
+        is_required: false,
+        help: "svg: strips or stairs [default: strips]",
+    },
+    Argument {
+        name: "notes",
         letter: None,
         form: Form::Flag,
         is_required: false,
-        help: "carry the script out too, and tell what was refused, denied or missed",
+        help: "notes of standard input too",
     },
     QUIET,
     FILE,
 ];
-
-/// `diff`.
-pub(crate) fn diff() -> Subcommand
-    ensures { shape_of_subcommand result ≡ diff_command }
-{
-    Subcommand {
-        name: "diff",
-        about: "Tells what the script's last records changed, or what differs between two scripts",
-        arguments: DIFF,
-    }
-}
-
-const DIFF: &[Argument] = &[
-    Argument {
-        name: "since",
-        letter: None,
-        form: Form::Named("RECORD"),
-        is_required: false,
-        help: "the first record whose changes are told [default: the last one]",
-    },
-    Argument {
-        name: "summary",
-        letter: None,
-        form: Form::Flag,
-        is_required: false,
-        help: "first a table of sums: tasks, slots, misses, lags, preemptions, migrations, cells that differ",
-    },
-    Argument {
-        name: "exit-code",
-        letter: None,
-        form: Form::Flag,
-        is_required: false,
-        help: "status 1 where something differs",
-    },
-    NOTES,
-    QUIET,
-    FILE,
-    Argument {
-        name: "second",
-        letter: None,
-        form: Form::Placed("FILE2"),
-        is_required: false,
-        help: "a second script: what differs between the first and it",
-    },
-];
-
-/// `drill`.
-pub(crate) fn drill() -> Subcommand
-    ensures { shape_of_subcommand result ≡ drill_command }
-{
-    Subcommand {
-        name: "drill",
-        about: "Carries the script of standard input out with a thread for each processor",
-        arguments: DRILL,
-    }
-}
-
-const DRILL: &[Argument] = &[NOTES, QUIET];
 
 /// `why`.
 pub(crate) fn why() -> Subcommand
@@ -167,7 +106,7 @@ pub(crate) fn why() -> Subcommand
 {
     Subcommand {
         name: "why",
-        about: "Tells one slot: who may run in it, in which order and why, who runs where, who waits",
+        about: "Tells one slot: who may run, in which order and why, who waits",
         arguments: WHY,
     }
 }
@@ -185,12 +124,89 @@ const WHY: &[Argument] = &[
         letter: None,
         form: Form::Named("T"),
         is_required: false,
-        help: "also why this task runs in the slot, waits, or does neither",
+        help: "also why this task runs, waits, or does neither",
     },
     TEXT_OR_JSON,
+    OUTPUT,
     NOTES,
     QUIET,
     FILE,
+];
+
+/// `check`.
+pub(crate) fn check() -> Subcommand
+    ensures { shape_of_subcommand result ≡ check_command }
+{
+    Subcommand {
+        name: "check",
+        about: "Tells where a plan or script is wrong, and what would be right",
+        arguments: CHECK,
+    }
+}
+
+const CHECK: &[Argument] = &[
+    Argument {
+        name: "run",
+        letter: None,
+        form: Form::Flag,
+        is_required: false,
+        help: "also what is refused, denied or missed in its run",
+    },
+    OUTPUT,
+    Argument {
+        name: "quiet",
+        letter: Some('q'),
+        form: Form::Flag,
+        is_required: false,
+        help: "no hints",
+    },
+    FILE,
+];
+
+/// `diff`.
+pub(crate) fn diff() -> Subcommand
+    ensures { shape_of_subcommand result ≡ diff_command }
+{
+    Subcommand {
+        name: "diff",
+        about: "Tells what the last records changed, or how two plans differ",
+        arguments: DIFF,
+    }
+}
+
+const DIFF: &[Argument] = &[
+    Argument {
+        name: "since",
+        letter: None,
+        form: Form::Named("RECORD"),
+        is_required: false,
+        help: "from this record on [default: the last one]",
+    },
+    Argument {
+        name: "summary",
+        letter: None,
+        form: Form::Flag,
+        is_required: false,
+        help: "first a table of sums",
+    },
+    Argument {
+        name: "exit-code",
+        letter: None,
+        form: Form::Flag,
+        is_required: false,
+        help: "status 1 where something differs",
+    },
+    OUTPUT,
+    NOTES,
+    QUIET,
+    FILE,
+    Argument {
+        name: "second",
+        letter: None,
+        form: Form::Placed("FILE2"),
+        is_required: false,
+        help: "a second one: how it differs from the first",
+    },
 ];
 
 /// `convert`.
@@ -199,7 +215,7 @@ pub(crate) fn convert() -> Subcommand
 {
     Subcommand {
         name: "convert",
-        about: "Turns a list of tasks in time into a script, or tells what each of several quanta gives",
+        about: "Turns a list of tasks in time into a plan",
         arguments: CONVERT,
     }
 }
@@ -209,58 +225,53 @@ const CONVERT: &[Argument] = &[
         name: "quantum",
         letter: None,
         form: Form::Named("QUANTA"),
-        is_required: true,
-        help: "how long a quantum is: a time, or up to 64, joined by commas, to compare them",
+        is_required: false,
+        help: "how long a slot is, or several [default: tried]",
     },
     Argument {
         name: "processors",
         letter: None,
         form: Form::Named("M"),
         is_required: false,
-        help: "how many processors there are, 1 to 64 [default: as many as are needed]",
+        help: "1 to 64 [default: as many as are needed]",
     },
     Argument {
         name: "switch",
         letter: None,
         form: Form::Named("C"),
         is_required: false,
-        help: "how much of each quantum a switch takes, a time [default: 0]",
+        help: "what a switch takes of each quantum [default: 0]",
+    },
+    Argument {
+        name: "arrivals",
+        letter: None,
+        form: Form::Named("HOW"),
+        is_required: false,
+        help: "aligned or any [default: aligned]",
     },
     Argument {
         name: "unit",
         letter: None,
         form: Form::Named("UNIT"),
         is_required: false,
-        help: "the unit of all times: ns, us, ms or s [default: ms]",
+        help: "ns, us, ms or s, of bare times [default: ms]",
     },
     Argument {
         name: "format",
         letter: Some('f'),
         form: Form::Named("FORMAT"),
         is_required: false,
-        help: "script, table or json [default: script; of several quanta table]",
+        help: "script, table or json [default: script or table]",
     },
+    OUTPUT,
     Argument {
         name: "file",
         letter: None,
         form: Form::Placed("FILE"),
         is_required: false,
-        help: "the file of the list of tasks; - or none: standard input",
+        help: "the list of tasks; - or none: standard input",
     },
 ];
-
-/// `fit`.
-pub(crate) fn fit() -> Subcommand
-    ensures { shape_of_subcommand result ≡ fit_command }
-{
-    Subcommand {
-        name: "fit",
-        about: "Tells whether the script fits, and what that rests on",
-        arguments: FIT,
-    }
-}
-
-const FIT: &[Argument] = &[TEXT_OR_JSON, FILE];
 
 /// `desk`.
 pub(crate) fn desk() -> Subcommand
@@ -268,7 +279,7 @@ pub(crate) fn desk() -> Subcommand
 {
     Subcommand {
         name: "desk",
-        about: "Holds a session at a desk: each line of standard input is answered before the next is read",
+        about: "A session: each line is answered before the next is read",
         arguments: DESK,
     }
 }
@@ -286,22 +297,44 @@ const DESK: &[Argument] = &[
         letter: None,
         form: Form::Named("FILE"),
         is_required: false,
-        help: "keep each record in this file before it is answered, and begin with those that it has",
+        help: "keep each record in FILE, and begin with its own",
     },
     Argument {
         name: "quiet",
         letter: Some('q'),
         form: Form::Flag,
         is_required: false,
-        help: "no sentences behind refusals, no sums that changed, and no prompt at a terminal",
+        help: "no sentences, hints and sums, and no prompt",
     },
     Argument {
         name: "file",
         letter: None,
         form: Form::Placed("SCRIPT"),
         is_required: false,
-        help: "a file whose records come first, without answers",
+        help: "its records come first, without answers",
     },
+];
+
+/// `drill`.
+pub(crate) fn drill() -> Subcommand
+    ensures { shape_of_subcommand result ≡ drill_command }
+{
+    Subcommand {
+        name: "drill",
+        about: "Tests the shared desk: a thread for each processor takes its quanta",
+        arguments: DRILL,
+    }
+}
+
+const DRILL: &[Argument] = &[
+    Argument {
+        name: "notes",
+        letter: None,
+        form: Form::Flag,
+        is_required: false,
+        help: "notes of standard input",
+    },
+    QUIET,
 ];
 
 // What several subcommands have.
@@ -314,12 +347,21 @@ const TEXT_OR_JSON: Argument = Argument {
     help: "text or json [default: text]",
 };
 
+const OUTPUT: Argument = Argument {
+    name: "output",
+    letter: Some('o'),
+    form: Form::Named("FILE"),
+    is_required: false,
+    help: "write to FILE, once it is whole",
+};
+
+// These commands tell notes in any case.
 const NOTES: Argument = Argument {
     name: "notes",
     letter: None,
     form: Form::Flag,
     is_required: false,
-    help: "tell on standard error what was refused, denied or missed, also of standard input",
+    help: "",
 };
 
 const QUIET: Argument = Argument {
@@ -327,7 +369,7 @@ const QUIET: Argument = Argument {
     letter: Some('q'),
     form: Form::Flag,
     is_required: false,
-    help: "no notes",
+    help: "no notes and no hints",
 };
 
 const FILE: Argument = Argument {
@@ -335,5 +377,5 @@ const FILE: Argument = Argument {
     letter: None,
     form: Form::Placed("FILE"),
     is_required: false,
-    help: "the file of the script; - or none: standard input",
+    help: "the plan or script; - or none: standard input",
 };

@@ -1,6 +1,6 @@
 ghost use Rattle.std.specs.Prelude.{◌≡◌, option_map};
 ghost use Rattle.clap.specs.Words.{subcommand_rows_of};
-ghost use Rattle.pf_arguments.specs.Asked.{is_file, names_file, telling_of};
+ghost use Rattle.pf_arguments.specs.Asked.{is_file, is_short, names_file, telling_of};
 ghost use Rattle.pf_arguments.specs.CommandLine.{any_behind, any_flag};
 
 use crate::telling::Telling;
@@ -11,15 +11,22 @@ use clap::ArgMatches;
 pub(crate) fn read_telling(matches: &ArgMatches<'_>) -> Telling
     ensures { result ≡ telling_of (subcommand_rows_of matches.now) }
 {
-    if any_flag(matches, "quiet") {
-        return Telling {
-            notes: false,
-            prompt: false,
-        };
-    }
+    let quiet = any_flag(matches, "quiet");
+    let whole = !is_short(matches) || any_flag(matches, "notes") || names_file(matches);
     Telling {
-        notes: any_flag(matches, "notes") || names_file(matches),
-        prompt: any_text(matches, "file").is_none() && !is_asked(matches, "desk"),
+        whole,
+        notes: whole && !quiet,
+        prompt: !quiet && any_text(matches, "file").is_none() && !is_asked(matches, "desk"),
+    }
+}
+
+/// Whether messages are short where nothing asks for more: those of a run, with or without its word, and of a drill.
+fn is_short(matches: &ArgMatches<'_>) -> bool
+    ensures { result ≡ is_short (subcommand_rows_of matches.now) }
+{
+    match matches.subcommand() {
+        Some((name, _)) => name == "run" || name == "drill",
+        None => true,
     }
 }
 

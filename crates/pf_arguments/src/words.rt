@@ -1,6 +1,7 @@
-ghost use Rattle.std.specs.Prelude.{◌≡◌, codes, map, option_map, IfOk};
+ghost use Rattle.std.specs.Prelude.{◌≡◌, codes, map, option_map, IfOk, None};
 ghost use Rattle.clap.specs.Words.{kind_of, subcommand_rows_of};
 ghost use Rattle.pf_arguments.specs.CommandLine.{has_flag, is_named, text_behind, text_behind_run};
+ghost use Rattle.pf_arguments.specs.Help.{topic_asked};
 ghost use Rattle.pf_arguments.specs.Asked.{IsAsked, IsRequest, IsSound, IsSoundRequest, ShowsError, cell_given, check_of, fail_on_given, file_found, file_of, fit_format_given, format_celled, format_found, format_of, format_wrapped, format_or_tables, name_of, number_given, range_given, range_mistake, style_given, task_of, wrap_given, fit_given};
 
 use crate::choices::mistake_text;
@@ -14,6 +15,7 @@ use crate::run_words::read_run;
 use crate::task::Task;
 use crate::telling_words::{any_text, read_telling};
 use crate::texts::{help_text, refusal_text, version_text};
+use crate::topics::topic_asked;
 use crate::why_question::read_why;
 use clap::ArgMatches;
 use clap::error::ErrorKind;
@@ -36,7 +38,8 @@ use std::convert::AsStr;
 /// may be standard input; with their sums first by `--summary`, and a status that tells of a difference by `--exit-code`. `drill`
 /// asks for a drill of standard input. `convert` asks for a list of tasks to be converted, in the quanta of `--quantum`, and
 /// `why` asks of a slot. `fit` asks whether the script fits, as text or in the format `--format`. `desk` asks for a session,
-/// after a script or none, with answers in JSON by `--json` and a journal by `--journal`. Answers
+/// after a script or none, with answers in JSON by `--json` and a journal by `--journal`. `help` and the name of a topic ask for its
+/// text. Answers
 /// `Refused` where the words are not the program's, `Mistaken` where the text of
 /// `--format` names no format, where that of `--from` or `--to` is no number, where the format has no range, where the text of
 /// `--cell` is no number of 6 to 40, `--wrap` no number of 1 to 4096 or `--style` no style, where the format has none of these,
@@ -45,6 +48,17 @@ use std::convert::AsStr;
 /// word of a conversion, or of what is asked of a slot, that is not as it has to be; and `NoMemory`, in place of any answer, where memory was refused.
 pub fn read_words<S: AsStr>(alloc: Global, words: &[S]) -> Result<Request, WordsFault>
     ensures asked { IsAsked (map S.text words.now) result }
+    ensures sound { IfOk result IsSoundRequest }
+{
+    match topic_asked(words) {
+        Some(text) => Ok(Request::Show(String::from_str(alloc, text)?)),
+        None => read_by_grammar(alloc, words),
+    }
+}
+
+/// What words ask for that ask for no topic of help.
+fn read_by_grammar<S: AsStr>(alloc: Global, words: &[S]) -> Result<Request, WordsFault>
+    ensures asked { topic_asked (map S.text words.now) ≡ None → IsAsked (map S.text words.now) result }
     ensures sound { IfOk result IsSoundRequest }
 {
     match program(alloc)?.try_get_matches_from(words) {
@@ -352,7 +366,7 @@ fn read_error<S: AsStr>(
         return Err(WordsFault::NoMemory);
     }
     if kind == ErrorKind::DisplayHelp {
-        return Ok(Request::Show(help_text(alloc, error)?));
+        return Ok(Request::Show(help_text(alloc, error, words)?));
     }
     if kind == ErrorKind::DisplayVersion {
         return Ok(Request::Show(version_text(alloc)?));

@@ -1,5 +1,3 @@
-pub mod Told
-pub mod Finding
-pub mod Plainly
-pub mod Plans
+pub mod Answered
+pub mod Appended
 pub mod Unnumbered

@@ -1,20 +1,21 @@
 -- The numbers of labels don't change whether a record of a plan is read: where a check finds no fault, no record stops the run.
-use Rattle.std.proofs.Common.{◌≡◌, ◌∙◌, ◌+◌, ◌++◌, ℕ, Bool, true, false, List, [], ◌∷◌, map, Option, None, Some, Result, Ok, Err, inl, refl, sym, ap, subst}
+use Rattle.std.proofs.Common.{◌≡◌, ◌∙◌, ◌+◌, ◌++◌, ℕ, Bool, true, false, List, [], ◌∷◌, map, Option, None, Some, Result, Ok, Err, inl, inr, refl, sym, ap, subst}
 use Rattle.std.specs.Prelude.{⊤, IfErr, codes, if◌then◌else◌, is_some, not, ok_or}
 use Rattle.std.specs.Str.{bytes_eq}
 use Rattle.std.proofs.lemmas.List.{map-append}
 use Rattle.pf_script_run.specs.Carried.{Stops}
-use Rattle.pf_script.specs.PlanCheck.Checked.{bad_if, fault_shown, faults, faults_at_end, faults_from, faults_next, faults_of, with_fault}
+use Rattle.pf_script.specs.PlanCheck.Checked.{bad_if, fault_shown, faults, faults_at_end, faults_from, faults_next, faults_of, first_fields, is_plan, with_fault}
 use Rattle.pf_script.specs.PlanCheck.Reports.{FaultShown}
 use Rattle.pf_vocabulary.specs.declared.fault.fault.Fault.{Fault}
 use Rattle.pf_vocabulary.specs.declared.fault.fault.Fault.TheVariants as why
-use Rattle.pf_check_run.specs.declared.found.Found.{Found}
-use Rattle.pf_check_run.specs.Answers.{Belongs, IsPlanStopped}
-use Rattle.pf_check_run.specs.Faults.{plan_shown}
-use Rattle.pf_check_run.specs.Found.{Finds, is_clean, is_empty}
+use Rattle.pf_script.specs.declared.check.found.Found.{Found}
+use Rattle.pf_script.specs.Check.Files.{file_kind, kind_or, record_messages, script_messages, telling_of}
+use Rattle.pf_script.specs.Messages.Lines.{FaultMessage, Telling, plan_messages}
+use Rattle.pf_check_run.specs.Answers.{IsStopped, IsStoppedWith}
+use Rattle.pf_script.specs.Check.Found.{Finds, is_clean, is_empty}
 use Rattle.pf_plain_script.specs.declared.origin.Origin.{Origin}
 use Rattle.pf_plain_script.specs.declared.plain.PlainScript.{PlainScript}
-use Rattle.pf_plain_script.specs.Plain.{Course, Plain, course_behind, ended, given, plain, plain_behind, plain_from, plain_next, plain_of, start, with_heading}
+use Rattle.pf_plain_script.specs.Plain.{Course, MakesPlain, Plain, course_behind, ended, given, plain, plain_behind, plain_from, plain_next, plain_of, start, with_heading}
 use Rattle.pf_version_laws.specs.Retold.{IsSameFault}
 use Rattle.pf_version_laws.proofs.Whole.{scripts_are_retold}
 use Rattle.pf_text.specs.Rows.Rows.{Row, rows}
@@ -206,18 +207,18 @@ read_alike p q fields alike =
     (record_read p alike.labels fields alike.names) (both_same LeadOn (opening_at fields) said_leads))
 
 -- where no record has a fault, none ends the script of version 2
-ended_good : (b : Bool) (number end : ℕ) (q : Progress) (origin : Origin) → faults_at_end number end (if b then None else Some (fault_at 0 NoSettings)) ≡ []
+ended_good : (b : Bool) (p : Progress) (number end : ℕ) (q : Progress) (origin : Origin) → faults_at_end p number end (if b then None else Some (fault_at 0 NoSettings)) ≡ []
     → (ended q origin (if b then None else Some (fault_at 0 NoSettings))).bad ≡ None
-ended_good true number end q origin h = refl
-ended_good false number end q origin h =
-    let bad : fault_shown number (record { line = end; fields = [] }) (fault_at 0 NoSettings) ∷ [] ≡ [] = h in cc
+ended_good true p number end q origin h = refl
+ended_good false p number end q origin h =
+    let bad : fault_shown p number (record { line = end; fields = [] }) (fault_at 0 NoSettings) ∷ [] ≡ [] = h in cc
 
 good_from : (rows : List Row) (p : Progress) (c : Course) (number n end : ℕ) → AreAlike p c.progress → faults_from p number end rows ≡ []
     → (plain_from c n end rows).bad ≡ None
 good_from [] p c number n end alike h =
     subst
     (λ (b : Bool). (ended c.progress (record { number = n; line = end }) (if b then None else Some (fault_at 0 NoSettings))).bad ≡ None)
-    (sym (ap (λ (r : Progress). r.opened) alike.same)) (ended_good p.opened number end c.progress (record { number = n; line = end }) h)
+    (sym (ap (λ (r : Progress). r.opened) alike.same)) (ended_good p.opened p number end c.progress (record { number = n; line = end }) h)
 good_from (row ∷ rows) p c number n end alike h =
     by (said_at p row.fields) (said_at c.progress row.fields) (read_alike p c.progress row.fields alike) h
     (λ q next more. good_from rows q next (number + 1) (n + 1) end more)
@@ -227,14 +228,14 @@ good_from (row ∷ rows) p c number n end alike h =
         → (plain_next (λ next. plain_from next (n + 1) end rows) c (record { number = n; line = row.line }) s).bad ≡ None
     by (Ok a) (Ok b) lead h more = more (progress_after p a 0) (course_behind c b) (alike_behind a b p c lead alike) h
     by (Ok a) (Err fault) lead h more = absurd lead
-    by (Err fault) s lead h more = let bad : fault_shown number row fault ∷ faults_from p (number + 1) end rows ≡ [] = h in cc
+    by (Err fault) s lead h more = let bad : fault_shown p number row fault ∷ faults_from p (number + 1) end rows ≡ [] = h in cc
 
 -- the heading is the first of them
 good_behind : (fault : Option RecordFault) (line end : ℕ) (fields : List (List ℕ)) (rows : List Row)
-    → with_fault (bad_if 1 line fault) fields (faults_from at_heading 2 end rows) ≡ [] → (plain_behind fault line end rows).bad ≡ None
+    → with_fault at_heading (bad_if 1 line fault) fields (faults_from at_heading 2 end rows) ≡ [] → (plain_behind fault line end rows).bad ≡ None
 good_behind None line end fields rows h = good_from rows at_heading start 2 2 end (record { labels = []; same = refl; names = refl }) h
 good_behind (Some fault) line end fields rows h =
-    let bad : fault_shown 1 (record { line = line; fields = fields }) fault ∷ faults_from at_heading 2 end rows ≡ [] = h in cc
+    let bad : fault_shown at_heading 1 (record { line = line; fields = fields }) fault ∷ faults_from at_heading 2 end rows ≡ [] = h in cc
 
 good_of : (rs : List Row) (end : ℕ) (p : Plain) → plain_of end rs ≡ Some p → faults_of end rs ≡ [] → p.bad ≡ None
 good_of [] end p e h = let bad : None ≡ Some p = e in cc
@@ -250,7 +251,7 @@ no_fault : (origins : List Origin) (t : Option FaultTold) → IsSameFault 1 orig
 no_fault origins None h = refl
 no_fault origins (Some f) h = absurd h
 
-of_memory : (t : Option FaultTold) (fault : Fault) → t ≡ None → Stops t fault → fault ≡ why.NoMemory
+pub of_memory : (t : Option FaultTold) (fault : Fault) → t ≡ None → Stops t fault → fault ≡ why.NoMemory
 of_memory t (why.BadRecord number) none h = let bad : None ≡ Some number = (rw none at h) in cc
 of_memory t why.NoMemory none h = refl
 of_memory t why.Read none h = absurd h
@@ -270,15 +271,48 @@ only_memory bytes p fault e h stops =
     of_memory (told (table_text p.records)).rest.fault fault
     (no_fault p.origins (told (table_text p.records)).rest.fault (subst (λ (b : Option _). IsSameFault 1 p.origins b (told (table_text p.records)).rest.fault) good same)) stops
 
-none_of : (file : List ℕ) (shown : List FaultShown) → is_empty (map (plan_shown file) shown) ≡ true → shown ≡ []
-none_of file [] h = refl
-none_of file (f ∷ fs) h = let bad : false ≡ true = h in cc
+-- a script to which one of version 2 belongs is a plan
+of_plan : (rs : List Row) (end : ℕ) (p : Plain) → plain_of end rs ≡ Some p → is_plan_heading (first_fields rs) ≡ true
+of_plan [] end p e = let bad : None ≡ Some p = e in cc
+of_plan (row ∷ rows) end p e = by (is_plan_heading row.fields) (plain_behind (heading_fault row.fields) row.line end rows) refl e
+  where
+    by : (b : Bool) (made : Plain) → is_plan_heading row.fields ≡ b → (if b then Some (with_heading row.line made) else None) ≡ Some p
+        → is_plan_heading row.fields ≡ true
+    by true made is e = is
+    by false made is e = let bad : None ≡ Some p = e in cc
 
--- Use: what stops the script of version 2, where a check of the plan found no fault.
-pub plan_stopped : {A : Type 0} (answer : Result A Fault) (file script : List ℕ) (records : ℕ) (found : Found) (s : PlainScript) (p : Plain)
-    → Finds file records (map (plan_shown file) (faults (rows script))) found → is_clean found ≡ true → Belongs script s p
-    → IfErr answer (Stops (told s.text.items).rest.fault) → IfErr answer (IsPlanStopped p)
-plan_stopped (Ok a) file script records found s p finds clean b h = tt
-plan_stopped (Err fault) file script records found s p finds clean b h =
-    inl (only_memory script p fault b.is (none_of file (faults (rows script)) (sym finds.clean ∙ clean))
-    (subst (λ (text : List ℕ). Stops (told text).rest.fault fault) b.written.text h))
+-- where it has no message, it has no fault
+none_of : (t : Telling) (shown : List FaultShown) → is_empty (plan_messages t shown) ≡ true → shown ≡ []
+none_of t [] h = refl
+none_of t (f ∷ fs) h = let bad : false ≡ true = h in cc
+
+pub none_kind : (file : List ℕ) (hints : Bool) (kind : Option _) (messages : List FaultMessage) → is_empty (kind_or file hints kind messages) ≡ true
+    → is_empty messages ≡ true
+none_kind file hints None messages h = h
+none_kind file hints (Some kind) messages h = let bad : false ≡ true = h in cc
+
+none_told : (file : List ℕ) (hints : Bool) (script : List ℕ) → is_plan (rows script) ≡ true → is_empty (script_messages file hints script) ≡ true
+    → faults (rows script) ≡ []
+none_told file hints script plan h =
+    let t = telling_of file hints script in
+    none_of t (faults (rows script)) (rw plan at (none_kind file hints (file_kind file hints script) (record_messages t) h))
+
+-- why it stops
+stopped_with : (script : List ℕ) (p : Plain) (text : List ℕ) (fault : Fault) → plain script ≡ Some p → faults (rows script) ≡ []
+    → text ≡ table_text p.records → IsStoppedWith text fault → IsStopped script fault
+stopped_with script p text fault e none is (inl (too, long)) = inr (too, rw e (rw is at long))
+stopped_with script p text fault e none is (inr stops) =
+    inl (only_memory script p fault e none (subst (λ (t : List ℕ). Stops (told t).rest.fault fault) is stops))
+
+-- Use: what stops a plan in which a check found no fault.
+pub plan_stopped : {A : Type 0} (answer : Result A Fault) (file : List ℕ) (hints : Bool) (script : List ℕ) (records : ℕ) (found : Found) (s : PlainScript)
+    → MakesPlain (Some s) (plain script) → Finds records (script_messages file hints script) found → is_clean found ≡ true
+    → IfErr answer (IsStoppedWith s.text.items) → IfErr answer (IsStopped script)
+plan_stopped (Ok a) file hints script records found s made finds clean h = tt
+plan_stopped (Err fault) file hints script records found s made finds clean h = by (plain script) refl made
+  where
+    by : (q : Option Plain) → plain script ≡ q → MakesPlain (Some s) q → IsStopped script fault
+    by None e made = absurd made
+    by (Some p) e made =
+        stopped_with script p s.text.items fault e
+        (none_told file hints script (of_plan (rows script).rows (rows script).end p e) (sym finds.clean ∙ clean)) made.text h

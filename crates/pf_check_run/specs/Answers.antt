@@ -1,7 +1,11 @@
 -- What is answered to a script that is checked and carried out.
-use Rattle.std.specs.Prelude.{ℕ, ◌≡◌, ◌<◌, ◌⊎◌, false, ◌^◌, ◌-◌, Option, None, Some, List, [], ◌∷◌, ◌++◌, codes, length, map}
+use Rattle.std.specs.Prelude.{ℕ, ◌≡◌, ◌<◌, ◌⊎◌, Bool, false, ◌^◌, ◌-◌, Option, None, Some, List, [], ◌∷◌, ◌++◌, codes, length}
 use Rattle.std.specs.Fmt.{decimal}
-use Rattle.pf_script.specs.PlanCheck.Checked.{faults as plan_faults}
+use Rattle.pf_script.specs.Check.Faults.{faults_count, faults_text}
+use Rattle.pf_script.specs.Check.Lines.{count_of, text_of}
+use Rattle.pf_script.specs.Check.Files.{record_count, script_messages}
+use Rattle.pf_script.specs.Messages.Lines.{FaultMessage}
+use Rattle.pf_script.specs.declared.check.found.Found.{Found}
 use Rattle.pf_desk.specs.Desk.{Seen}
 use Rattle.pf_vocabulary.specs.Fault.Answers.{IsQuiet}
 use Rattle.pf_vocabulary.specs.declared.fault.answer.Answer.{Answer}
@@ -12,18 +16,15 @@ use Rattle.pf_vocabulary.specs.declared.fault.status.Status.{Status}
 use Rattle.pf_vocabulary.specs.declared.fault.status.Status.TheVariants.{BadScript, Done}
 use Rattle.pf_fit_command.specs.Fit.{IsSeenBehind}
 use Rattle.pf_vocabulary.specs.declared.names.named.Named.{Named}
-use Rattle.pf_plain_script.specs.Plain.{IsPlain, Plain, plain}
-use Rattle.pf_plain_script.specs.declared.plain.PlainScript.{PlainScript}
+use Rattle.pf_plain_script.specs.Plain.{Plain, plain}
 use Rattle.pf_plain_script.specs.declared.origin.Origin.{Origin}
 use Rattle.pf_script_results.specs.Recount.{Recounted, recounted}
-use Rattle.pf_text.specs.Rows.Rows.{rows}
 use Rattle.pf_run.specs.Computed.{run_of}
 use Rattle.pf_run_notes.specs.Notes.{lists_text}
-use Rattle.pf_script.specs.Script.{script_records}
-use Rattle.pf_script.specs.Told.{faults, told}
+use Rattle.pf_script.specs.Told.{told}
+use Rattle.pf_script_run.specs.Carried.{Stops}
 use Rattle.pf_tally.specs.Misses.{misses_of}
 use Rattle.pf_text.specs.Page.{table_text}
-use Rattle.pf_check_run.specs.Faults.{FaultLine, faults_text, shown, plan_shown}
 
 -- lines are told of as many refusals, denials and tasks with missed windows as can be counted
 abbrev pub most_lines : ℕ
@@ -62,33 +63,43 @@ pub record Carries (file : List ℕ) (origins : Option (List Origin)) (names : L
   pub text : answer.text.items ≡ lists_of file names came seen ++ totals_of records came seen
   pub ends : IsQuiet (status_of_lines (lists_of file names came seen)) answer.ending
 
+-- the last line of a script that was not carried out
+unfoldable pub not_run_line : ℕ → ℕ → List ℕ
+not_run_line records lines = decimal records ++ codes " records, " ++ decimal lines ++ codes " faults; not run\n"
+
+-- of what a check found
+abbrev pub NotRunBy : Found → Answer → Type 0
+NotRunBy f answer = answer.text.items ≡ text_of f.lines ++ not_run_line f.records (count_of f.lines)
+
 -- a script with so many records has faults, and was not carried out
-pub record NotRun (file : List ℕ) (records : ℕ) (faults : List FaultLine) (answer : Answer) : Type 0 where
-  pub text : answer.text.items ≡ faults_text file records faults
+pub record NotRun (records : ℕ) (faults : List FaultMessage) (answer : Answer) : Type 0 where
+  pub text : answer.text.items ≡ faults_text records faults ++ not_run_line records (faults_count records faults)
   pub ends : IsQuiet BadScript answer.ending
 
 -- it has these faults, or else it was carried out
-abbrev pub IsAnswer : List ℕ → ℕ → List FaultLine → (Answer → Type 0) → Answer → Type 0
-IsAnswer file records [] IsCarried answer = IsCarried answer
-IsAnswer file records (f ∷ faults) IsCarried answer = NotRun file records (f ∷ faults) answer
+abbrev pub IsAnswer : ℕ → List FaultMessage → (Answer → Type 0) → Answer → Type 0
+IsAnswer records [] IsCarried answer = IsCarried answer
+IsAnswer records (m ∷ faults) IsCarried answer = NotRun records (m ∷ faults) answer
 
--- the answer to a script of version 1 or 2 of this file
-abbrev pub ChecksRun : List ℕ → List ℕ → Answer → Type 0
-ChecksRun file script answer =
-    IsAnswer file (length (script_records script)) (map (shown file) (faults script))
-    (Carries file None [] script (length (script_records script))) answer
+-- a script of this file, with so many records, was carried out: of a plan the script of version 2 that belongs to it
+abbrev pub CarriesScript : Option Plain → List ℕ → List ℕ → ℕ → Answer → Type 0
+CarriesScript None file script records answer = Carries file None [] script records answer
+CarriesScript (Some p) file script records answer = Carries file (Some p.origins) p.titles.names (table_text p.records) records answer
 
--- to a plan, to which the script `p` of version 2 belongs
-abbrev pub ChecksPlanRun : Plain → List ℕ → List ℕ → Answer → Type 0
-ChecksPlanRun p file script answer =
-    IsAnswer file (length (rows script).rows) (map (plan_shown file) (plan_faults (rows script)))
-    (Carries file (Some p.origins) p.titles.names (table_text p.records) (length (rows script).rows)) answer
+-- the answer to a script of any version, of this file
+abbrev pub ChecksRun : List ℕ → Bool → List ℕ → Answer → Type 0
+ChecksRun file hints script answer =
+    IsAnswer (record_count script) (script_messages file hints script) (CarriesScript (plain script) file script (record_count script)) answer
 
--- this script of version 2 belongs to a plan
-pub record Belongs (script : List ℕ) (s : PlainScript) (p : Plain) : Type 0 where
-  pub is : plain script ≡ Some p
-  pub written : IsPlain s p
+-- why a script of version 2 that belongs to a plan was not carried out: it is too long, or it stopped
+abbrev pub IsStoppedWith : List ℕ → Fault → Type 0
+IsStoppedWith text fault = ((fault ≡ why.TooLong) × (longest_script < length text)) ⊎ Stops (told text).rest.fault fault
 
--- why there is no answer: memory was refused, or the script of version 2 is too long to be carried out
-abbrev pub IsPlanStopped : Plain → Fault → Type 0
-IsPlanStopped p fault = (fault ≡ why.NoMemory) ⊎ ((fault ≡ why.TooLong) × (longest_script < length (table_text p.records)))
+-- what belongs to a plan is too long to be carried out
+abbrev pub IsTooLong : Option Plain → Type 0
+IsTooLong None = ⊥
+IsTooLong (Some p) = longest_script < length (table_text p.records)
+
+-- why there is no answer: memory was refused, or the script of version 2 that belongs to a plan is too long
+abbrev pub IsStopped : List ℕ → Fault → Type 0
+IsStopped script fault = (fault ≡ why.NoMemory) ⊎ ((fault ≡ why.TooLong) × IsTooLong (plain script))

@@ -4,15 +4,17 @@ ghost use Rattle.pf_script_run.specs.Carried.{IsOf, Stops};
 ghost use Rattle.pf_vocabulary.specs.Fault.Faults.{IsUnwritten};
 ghost use Rattle.pf_script_results.specs.Recount.{recounted};
 ghost use Rattle.pf_script.specs.Told.{told};
-ghost use Rattle.pf_check_run.specs.Answers.{Carries, counted_text, lists_of, most_lines, status_of_lines, totals_line, totals_of};
+ghost use Rattle.pf_check_run.specs.Answers.{Carries, IsStoppedWith, counted_text, lists_of, most_lines, status_of_lines, totals_line, totals_of};
 
 use pf_desk::desk::Desk;
 use pf_desk::snapshot::Snapshot;
 use pf_plain_script::origin::Origin;
+use pf_plain_script::plain::PlainScript;
 use pf_run_notes::behind_run::lists;
 use pf_script_results::recount::Recount;
 use pf_script_results::recounting::recount;
 use pf_script_run::carry::carry;
+use pf_stream::reading::LONGEST_SCRIPT;
 use pf_text::numbers::push_number;
 use pf_vocabulary::fault::answer::Answer;
 use pf_vocabulary::fault::ending::Ending;
@@ -47,6 +49,35 @@ pub(crate) fn carried(
         },
         Err(fault) => Err(fault),
     }
+}
+
+/// The same of the script of version 2 that belongs to a plan with so many records.
+///
+/// # Errors
+///
+/// Those, and `TooLong` where the script is longer than what is carried out.
+pub(crate) fn plan_carried(
+    alloc: Global,
+    file: &[u8],
+    plain: &PlainScript,
+    records: u64,
+) -> Result<Answer, Fault>
+    ensures made { IfOk result (Carries file.now (Some plain.now.origins.items) plain.now.titles.names plain.now.text.items records) }
+    ensures stopped { IfErr result (IsStoppedWith plain.now.text.items) }
+    ensures unwritten { IfErr result IsUnwritten }
+{
+    if plain.text.len() > LONGEST_SCRIPT {
+        return Err(Fault::TooLong);
+    }
+    let origins = plain.origins.as_slice();
+    carried(
+        alloc,
+        file,
+        &plain.text,
+        Some(origins),
+        &plain.titles.names,
+        records,
+    )
 }
 
 /// The same of the desk on which the script was carried out.

@@ -3,9 +3,6 @@
 //! that was asked the script's commands.
 #![tactic(auto)]
 
-mod bad;
 mod carried;
 pub mod check_run;
-mod fault_lines;
-mod faults;
-mod found;
+mod not_run;

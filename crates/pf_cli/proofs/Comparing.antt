@@ -1,7 +1,7 @@
 -- Two scripts that are compared.
 use Rattle.std.proofs.Common.{◌≡◌, ℕ, List, Option, Result, Ok, Err, refl, sym, subst}
 use Rattle.std.proofs.KnownBytes.{Keeps-refl}
-use Rattle.std.specs.Prelude.{Bool, Vec}
+use Rattle.std.specs.Prelude.{Vec}
 use Rattle.std.specs.declared.alloc.Global.{Global}
 use Rattle.pf_desk.specs.Desk.{Seen}
 use Rattle.pf_vocabulary.specs.declared.fault.ending.Ending.{Ending}
@@ -9,6 +9,7 @@ use Rattle.pf_vocabulary.specs.declared.fault.fault.Fault.{Fault}
 use Rattle.pf_vocabulary.specs.declared.fault.fault.Fault.TheVariants as why
 use Rattle.pf_vocabulary.specs.Fault.Faults.{CountsWrites, IsUnwritten}
 use Rattle.pf_arguments.specs.Diffs.{PairNames}
+use Rattle.pf_arguments.specs.declared.telling.Telling.{Telling}
 use Rattle.pf_cli.specs.Compared.{Shows}
 use Rattle.pf_cli.specs.Status.{ComparesBehind, ComparesScripts, Streams, seen_streams}
 use Rattle.pf_cli.specs.declared.noted.Noted.{Noted}
@@ -29,10 +30,10 @@ unwritten_counts fault count answer h is = subst (λ (a : Result Ending Fault). 
     by why.GateShut h = refl
 
 -- Use: the first script had a fault, ..
-pub first_stops : (names : PairNames) (asked : Bool) (fault : Fault) (notes : Result (Vec ℕ Global) Fault) (input more : Option (List ℕ)) (reads after : ℕ)
-    (output : Option (List ℕ)) (writes : ℕ) → Shows names.first asked (Err fault) notes input reads more after → IsUnwritten fault
-    → ComparesScripts names asked (record { outcome = Err fault; notes = notes }) (seen_streams input reads output writes) (seen_streams more after output writes)
-first_stops names asked fault notes input more reads after output writes shows h = record {
+pub first_stops : (names : PairNames) (telling : Telling) (fault : Fault) (notes : Result (Vec ℕ Global) Fault) (input more : Option (List ℕ)) (reads after : ℕ)
+    (output : Option (List ℕ)) (writes : ℕ) → Shows names.first telling (Err fault) notes input reads more after → IsUnwritten fault
+    → ComparesScripts names telling (record { outcome = Err fault; notes = notes }) (seen_streams input reads output writes) (seen_streams more after output writes)
+first_stops names telling fault notes input more reads after output writes shows h = record {
   between = seen_streams more after output writes;
   first = Err fault;
   first_notes = notes;
@@ -43,11 +44,11 @@ first_stops names asked fault notes input more reads after output writes shows h
 }
 
 -- .. or none
-pub first_ends : (names : PairNames) (asked : Bool) (before : Seen) (notes : Result (Vec ℕ Global) Fault) (noted : Noted) (input between : Option (List ℕ))
-    (reads after : ℕ) (output : Option (List ℕ)) (writes : ℕ) (new : Streams) → Shows names.first asked (Ok before) notes input reads between after
-    → ComparesBehind names asked (Ok before) notes noted (seen_streams between after output writes) new → CountsWrites noted.outcome writes new.failed_writes
-    → ComparesScripts names asked noted (seen_streams input reads output writes) new
-first_ends names asked before notes noted input between reads after output writes new shows answers counts = record {
+pub first_ends : (names : PairNames) (telling : Telling) (before : Seen) (notes : Result (Vec ℕ Global) Fault) (noted : Noted) (input between : Option (List ℕ))
+    (reads after : ℕ) (output : Option (List ℕ)) (writes : ℕ) (new : Streams) → Shows names.first telling (Ok before) notes input reads between after
+    → ComparesBehind names telling (Ok before) notes noted (seen_streams between after output writes) new → CountsWrites noted.outcome writes new.failed_writes
+    → ComparesScripts names telling noted (seen_streams input reads output writes) new
+first_ends names telling before notes noted input between reads after output writes new shows answers counts = record {
   between = seen_streams between after output writes;
   first = Ok before;
   first_notes = notes;

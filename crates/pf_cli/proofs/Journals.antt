@@ -1,7 +1,8 @@
 -- A session with a journal, as it begins and as it ends.
 use Rattle.std.proofs.Common.{◌≡◌, ◌∙◌, ◌&&◌, ℕ, arith, eqb, sym, subst, inl, inr, refl, Bool, true, false, List, [], Option, Some, None, Result, Ok, Err}
 use Rattle.std.proofs.lemmas.Bool.Decides.{nat_tests}
-use Rattle.std.specs.Prelude.{IfOk, String, if◌then◌else◌, is_some, not, option_map, string_bytes}
+use Rattle.std.specs.Prelude.{IfOk, String, Vec, is_some, not, option_map, string_bytes, unwrap_or}
+use Rattle.std.specs.Borrow.{Bor}
 use Rattle.std.specs.declared.alloc.Global.{Global}
 use Rattle.pf_vocabulary.specs.declared.fault.ending.Ending.{Ending}
 use Rattle.pf_vocabulary.specs.declared.fault.fault.Fault.{Fault}
@@ -11,7 +12,9 @@ use Rattle.pf_journal_file.specs.Faults.{IsOutcome}
 use Rattle.pf_journal.specs.declared.found.Found.{Found}
 use Rattle.pf_journal.specs.declared.journal_error.JournalError.{JournalError}
 use Rattle.pf_journal_file.specs.declared.journal_fault.JournalFault.TheVariants.{NoMemory}
-use Rattle.pf_journal_session.specs.Journaled.{Begins}
+use Rattle.pf_journal_session.specs.Journaled.{Begins, DoesNotBegin as IsNotBegun}
+use Rattle.pf_journal_session.specs.declared.unopened.Unopened.TheVariants.{Script}
+use Rattle.pf_script_notes.specs.Faults.{IsFaultNote}
 use Rattle.pf_journal.specs.Kept.{IsFound, found_bytes, found_disk}
 use Rattle.pf_answers.specs.declared.manner.Manner.{Manner}
 use Rattle.pf_journal.specs.Recorder.Recording.{Recording}
@@ -44,12 +47,22 @@ had_of reading.Memory fault is = rw is tt
 -- Use: it could not be read.
 pub unread_script : (manner : Manner) (script : Option (List ℕ)) (path : List ℕ) (reading : ReadingFault) (fault : Fault) (noted : Noted)
     → is_some script ≡ true → fault ≡ fault_of_reading reading → noted.outcome ≡ Err fault
-    → IfOk noted.notes (λ note. IsUnreadNote (not manner.quiet) (told_name script) fault note.items) → DoesNotBeginOn manner script path noted
+    → IfOk noted.notes (λ note. IsUnreadNote true (told_name script) fault note.items) → DoesNotBeginOn manner script path noted
 unread_script manner None path reading fault noted some is outcome notes = let e : false ≡ true = some in cc
 unread_script manner (Some name) path reading fault noted some is outcome notes = inr (fault, outcome, inl (inl (had_of reading fault is, notes)))
 
+-- Use: the script that is named has a bad record, or memory was refused.
+pub script_refused : (manner : Manner) (file : Option (List ℕ)) (script : Option (Bor (List ℕ))) (other : Bor (List ℕ)) (bytes path : List ℕ) (fault : Fault)
+    (notes : Result (Vec ℕ Global) Fault) → is_some script ≡ is_some file → IsNotBegun manner (option_map (λ s. s.now) script) bytes (Script fault)
+    → IfOk notes (λ note. IsFaultNote (told_name file) (unwrap_or script other).now (not manner.quiet) None fault note.items)
+    → DoesNotBeginOn manner file path (record { outcome = Err fault; notes = notes })
+script_refused manner None None other bytes path fault notes named begun told = let e : false ≡ true = begun.0 in cc
+script_refused manner None (Some s) other bytes path fault notes named begun told = let e : true ≡ false = named in cc
+script_refused manner (Some name) None other bytes path fault notes named begun told = let e : false ≡ true = named in cc
+script_refused manner (Some name) (Some s) other bytes path fault notes named begun told = inr (fault, refl, inl (inr (s.now, (begun.1, told))))
+
 -- whether there is one does not depend on what is seen of it
-some_of : {A B : Type 0} (f : A → B) (o : Option A) → is_some (option_map f o) ≡ is_some o
+pub some_of : {A B : Type 0} (f : A → B) (o : Option A) → is_some (option_map f o) ≡ is_some o
 some_of f None = refl
 some_of f (Some x) = refl
 

@@ -9,17 +9,18 @@ use Rattle.pf_vocabulary.specs.declared.fault.fault.Fault.TheVariants as why
 use Rattle.pf_vocabulary.specs.Names.Titled.{untitled}
 use Rattle.pf_vocabulary.specs.declared.names.named.Named.{Named}
 use Rattle.pf_vocabulary.specs.declared.names.titles.Titles.{Titles}
-use Rattle.pf_plain_script.specs.Plain.{MakesPlain, Plain, plain}
+use Rattle.pf_plain_script.specs.Plain.{IsPlain, MakesPlain, Plain, plain}
 use Rattle.pf_plain_script.specs.declared.origin.Origin.{Origin}
 use Rattle.pf_plain_script.specs.declared.plain.PlainScript.{PlainScript}
 use Rattle.pf_script.specs.Told.{told}
 use Rattle.pf_script_notes.specs.Behind.{NotesBy, RunNotes, names_in, origins_in, text_in}
 use Rattle.pf_script_run.specs.Carried.{Stops}
 use Rattle.pf_arguments.specs.declared.task.Task.{Task}
+use Rattle.pf_arguments.specs.declared.task.Task.TheVariants.{Run, RunTasks, Check, CheckRun, Diff, Drill, Convert, Fit, Why}
 use Rattle.pf_cli.specs.Ends.{AreRunNotes, IsTextBy}
 use Rattle.pf_cli.specs.Noted.{OneOf, notes_in}
-use Rattle.pf_cli.specs.Tasks.{AnswersTask}
-use Rattle.pf_cli.specs.Versions.{AnswersBytes, AnswersOf}
+use Rattle.pf_cli.specs.Tasks.{AnswersTask, IsCarriedOut}
+use Rattle.pf_cli.specs.Versions.{AnswersBytes, AnswersOf, AnswersPlan, AnswersShort}
 
 -- Use: of a plan the one that belongs to it is carried out, ..
 pub plan_text : (q : Option Plain) (s : PlainScript) (script : List ℕ) → MakesPlain (Some s) q
@@ -37,16 +38,41 @@ own_text None script made = record { text_is = refl; origins_are = refl; names_a
 own_text (Some p) script made = absurd made
 
 -- Use: its answer is that of the script.
-pub own_answered : (task : Task) (file script : List ℕ) (titles : Titles) (outcome answer : Result Ending Fault) (old new : Option (List ℕ))
-    → MakesPlain None (plain script) → titles ≡ untitled → AnswersTask titles None task file script outcome old new → answer ≡ outcome
-    → AnswersBytes task file script answer old new
-own_answered task file script titles outcome answer old new made none answers same = by (plain script) made
+pub own_answered : (hints : Bool) (task : Task) (file script : List ℕ) (titles : Titles) (outcome answer : Result Ending Fault) (old new : Option (List ℕ))
+    → MakesPlain None (plain script) → titles ≡ untitled → AnswersTask titles None hints task file script outcome old new → answer ≡ outcome
+    → AnswersBytes hints task file script answer old new
+own_answered hints task file script titles outcome answer old new made none answers same = by (plain script) made
   where
-    by : (q : Option Plain) → MakesPlain None q → AnswersOf q task file script answer old new ⊎ ((answer ≡ Err why.NoMemory) × Keeps old new)
+    by : (q : Option Plain) → MakesPlain None q → AnswersOf q hints task file script answer old new ⊎ ((answer ≡ Err why.NoMemory) × Keeps old new)
     by None made =
-        inl (subst (λ (a : Result Ending Fault). AnswersTask untitled None task file script a old new) (sym same)
-        (subst (λ (t : Titles). AnswersTask t None task file script outcome old new) none answers))
+        inl (subst (λ (a : Result Ending Fault). AnswersTask untitled None hints task file script a old new) (sym same)
+        (subst (λ (t : Titles). AnswersTask t None hints task file script outcome old new) none answers))
     by (Some p) made = absurd made
+
+-- a task that carries a plan out is answered by the script of version 2
+short_answered : (p : Plain) (hints : Bool) (task : Task) (file script : List ℕ) (answer : Result Ending Fault) (old new : Option (List ℕ)) → IsCarriedOut task
+    → AnswersShort p hints task file answer old new → AnswersPlan p hints task file script answer old new
+short_answered p hints (Run format fail_on) file script answer old new carried short = short
+short_answered p hints (RunTasks format words fail_on) file script answer old new carried short = short
+short_answered p hints Check file script answer old new carried short = absurd carried
+short_answered p hints CheckRun file script answer old new carried short = absurd carried
+short_answered p hints (Diff since options) file script answer old new carried short = short
+short_answered p hints Drill file script answer old new carried short = short
+short_answered p hints (Convert conversion) file script answer old new carried short = absurd carried
+short_answered p hints (Fit format) file script answer old new carried short = short
+short_answered p hints (Why question) file script answer old new carried short = short
+
+-- Use: .. or of the plan to which this one belongs.
+pub plan_answered : (hints : Bool) (task : Task) (file script : List ℕ) (s : PlainScript) (outcome answer : Result Ending Fault) (old new : Option (List ℕ))
+    → IsCarriedOut task → MakesPlain (Some s) (plain script) → ((p : Plain) → IsPlain s p → AnswersShort p hints task file outcome old new)
+    → answer ≡ outcome → AnswersBytes hints task file script answer old new
+plan_answered hints task file script s outcome answer old new carried made answers same = by (plain script) made
+  where
+    by : (q : Option Plain) → MakesPlain (Some s) q → AnswersOf q hints task file script answer old new ⊎ ((answer ≡ Err why.NoMemory) × Keeps old new)
+    by None made = absurd made
+    by (Some p) made =
+        inl (short_answered p hints task file script answer old new carried
+        (subst (λ (a : Result Ending Fault). AnswersShort p hints task file a old new) (sym same) (answers p made)))
 
 -- the notes of its text are those of the script
 notes_by : (q : Option Plain) (file script text : List ℕ) (origins : Option (List Origin)) (names : List Named) (made : Result (Vec ℕ Global) Fault)

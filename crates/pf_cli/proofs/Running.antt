@@ -1,6 +1,6 @@
 -- What the bytes of a script mean in a run, by the script of version 2 that belongs to them, and what a run answers that reads none.
-use Rattle.std.proofs.Common.{◌≡◌, ◌≤◌, ◌<◌, ℕ, Bool, List, [], length, Option, None, Some, Result, Err, refl, sym, ap, subst, ◌∙◌}
-use Rattle.std.specs.Prelude.{⊤, if◌then◌else◌, IfSome, nat_lt}
+use Rattle.std.proofs.Common.{◌≡◌, ◌≤◌, ◌<◌, ℕ, Bool, List, [], length, Option, None, Some, Result, Err, refl, sym, ap, subst}
+use Rattle.std.specs.Prelude.{⊤, if◌then◌else◌, IfSome}
 use Rattle.std.specs.Io.KnownBytes.{Keeps}
 use Rattle.std.proofs.KnownBytes.{Appends-nil}
 use Rattle.std.proofs.lemmas.Bool.{le-ltb, lt-ltb}

@@ -43,6 +43,12 @@ first_told (Ok x) old new a b first second is h count = cc
 first_told (Err e) old new a b first second is h count =
     record { front = took-before old new first second h; whole = λ same. absurd (omega (arith, same, count)) }
 
+-- Use: one text was told, or a front of it.
+pub one_told : {A E : Type 0} (r : Result A E) (old new : Option (List ℕ)) (a b : ℕ) (text : List ℕ) → OnOk r (Appends old new text)
+    → OnErr r (TookFront old new text) → MatchResult r (λ _. b ≡ a) (λ _. b ≡ a + 1) → Tells old new a b text
+one_told (Ok x) old new a b text ok err count = record { front = ([], (text, ok, append-nil text)); whole = λ same. ok }
+one_told (Err e) old new a b text ok err count = record { front = err; whole = λ same. absurd (omega (arith, same, count)) }
+
 -- Use: a write failed once, or not at all.
 pub few_failed : {A E : Type 0} (r : Result A E) (a b : ℕ) → MatchResult r (λ _. b ≡ a) (λ _. b ≡ a + 1) → b ≤ a + 1
 few_failed (Ok x) a b is = omega (arith, is)

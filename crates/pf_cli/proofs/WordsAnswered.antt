@@ -1,5 +1,5 @@
 -- What the program does for words, whether they ask for a task or for nothing.
-use Rattle.std.proofs.Common.{◌≡◌, ◌∙◌, ◌+◌, ◌⊎◌, ℕ, append-nil, refl, sym, subst, inl, inr, arith, Bool, true, false, List, [], Option, Some, None, Ok, Err}
+use Rattle.std.proofs.Common.{◌≡◌, ◌∙◌, ◌+◌, ◌⊎◌, ℕ, refl, sym, subst, inl, inr, arith, Bool, true, false, List, [], Option, Some, None, Ok, Err}
 use Rattle.std.specs.Prelude.{IfSome}
 use Rattle.std.proofs.KnownBytes.{Keeps-refl, Consumes-nil}
 use Rattle.pf_vocabulary.specs.declared.fault.fault.Fault.TheVariants as stop
@@ -9,6 +9,7 @@ use Rattle.pf_stream.specs.HeldAnswers.Streams as Held
 use Rattle.pf_arguments.specs.declared.request.WordsFault.{WordsFault}
 use Rattle.pf_arguments.specs.declared.request.WordsFault.TheVariants as fault
 use Rattle.pf_arguments.specs.declared.task.Task.{Task}
+use Rattle.pf_arguments.specs.declared.telling.Telling.{Telling}
 use Rattle.pf_arguments.specs.Asked.{AsksHelp, AsksVersion, AreMistaken, IsAsked, IsRefused, IsShownTo, desk_asked, desk_named, file_asked, pair_asked, reads_input, reads_input_for, task_asked, telling_asked}
 use Rattle.pf_arguments.specs.Desks.{DeskNames}
 use Rattle.pf_arguments.specs.Diffs.{PairNames}
@@ -78,7 +79,7 @@ status_of_memory : (closed : Bool) (otherwise : Status) → 4 ≡ status_ended c
 status_of_memory closed otherwise = refl
 
 memory_told : (closed : Bool) (told : List ℕ → Type 0) → told (fault_line stop.NoMemory) → IsTold closed (Err stop.NoMemory) [] told
-memory_told closed told is = subst told (sym (append-nil (fault_line stop.NoMemory))) is
+memory_told closed told is = is
 
 -- a reader that was not read has given no byte
 none_taken : (input : Option (List ℕ)) → TakesAtMost input input (longest_script + 1)
@@ -98,9 +99,9 @@ abbrev no_memory_noted : Noted
 no_memory_noted = record { outcome = Err stop.NoMemory; notes = Err stop.NoMemory }
 
 -- it is an answer to each task
-no_memory : (task : Task) (file : Option (List ℕ)) (asked closed : Bool) (old : Streams) (told : List ℕ → Type 0) → told (fault_line stop.NoMemory)
-    → Does task file asked closed 4 old old told
-no_memory task file asked closed old told is = record {
+no_memory : (task : Task) (file : Option (List ℕ)) (telling : Telling) (closed : Bool) (old : Streams) (told : List ℕ → Type 0) → told (fault_line stop.NoMemory)
+    → Does task file telling closed 4 old old told
+no_memory task file telling closed old told is = record {
   noted = no_memory_noted;
   status_is = status_of_memory closed (gone_of task);
   done = record {
@@ -115,9 +116,9 @@ no_memory task file asked closed old told is = record {
 }
 
 -- and to two scripts
-no_memory_for_two : (names : PairNames) (asked closed : Bool) (old : Streams) (told : List ℕ → Type 0) → told (fault_line stop.NoMemory)
-    → Compares names asked closed 4 old old told
-no_memory_for_two names asked closed old told is = record {
+no_memory_for_two : (names : PairNames) (telling : Telling) (closed : Bool) (old : Streams) (told : List ℕ → Type 0) → told (fault_line stop.NoMemory)
+    → Compares names telling closed 4 old old told
+no_memory_for_two names telling closed old told is = record {
   noted = no_memory_noted;
   status_is = status_of_memory closed (gone_diff names.options);
   done = record {
@@ -168,10 +169,10 @@ no_memory_at_any_desk seen may_leave is_usable is_clean is_mixing (Some path) de
 
 -- and to all words
 memory_answers : (words : List (List ℕ)) (old : Streams) (told : List ℕ → Type 0) (held : DeskNames → Type 0) (want : Option Task) (pair : Option PairNames)
-    (desk : Option DeskNames) (file : Option (List ℕ)) (asked closed : Bool) → told (fault_line stop.NoMemory) → ((d : DeskNames) → held d)
-    → AnswersAsked words want pair desk file asked closed 4 old old told held
-memory_answers words old told held None None (Some desk) file asked closed is holds = holds desk
-memory_answers words old told held None None None file asked closed is holds = record {
+    (desk : Option DeskNames) (file : Option (List ℕ)) (telling : Telling) (closed : Bool) → told (fault_line stop.NoMemory) → ((d : DeskNames) → held d)
+    → AnswersAsked words want pair desk file telling closed 4 old old told held
+memory_answers words old told held None None (Some desk) file telling closed is holds = holds desk
+memory_answers words old told held None None None file telling closed is holds = record {
   ended = inr (inr refl);
   input = refl;
   reads = refl;
@@ -180,8 +181,8 @@ memory_answers words old told held None None None file asked closed is holds = r
   tells = λ two. absurd (omega (arith, two));
   memory = λ four. is;
 }
-memory_answers words old told held None (Some names) desk file asked closed is holds = no_memory_for_two names asked closed old told is
-memory_answers words old told held (Some task) pair desk file asked closed is holds = no_memory task file asked closed old told is
+memory_answers words old told held None (Some names) desk file telling closed is holds = no_memory_for_two names telling closed old told is
+memory_answers words old told held (Some task) pair desk file telling closed is holds = no_memory task file telling closed old told is
 
 -- the words are not the program's
 mistaken : (words : List (List ℕ)) (closed : Bool) (old : Streams) (told : List ℕ → Type 0) (text : List ℕ)
@@ -209,7 +210,7 @@ untouched words (fault.Mistaken text) closed old told held are is holds =
     (mistaken_asks_no_desk words are.0 are.1)
     (mistaken words closed old told text.items (inr (are.0, are.1)) (inr (are.0, are.1, are.2)) is)
 untouched words fault.NoMemory closed old told held any is holds =
-    memory_answers words old told held (task_asked words) (pair_asked words) (desk_asked words) (file_asked words) (telling_asked words).notes closed is
+    memory_answers words old told held (task_asked words) (pair_asked words) (desk_asked words) (file_asked words) (telling_asked words) closed is
     (holds refl is)
 
 -- words that ask for nothing, and running out of memory, leave the streams as they were

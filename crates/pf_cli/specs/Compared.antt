@@ -1,5 +1,5 @@
 -- What two scripts come to that are compared: the desks at their ends, and what the program answers to them.
-use Rattle.std.specs.Prelude.{⊤, ℕ, ◌≡◌, ◌⊎◌, ◌<◌, ◌≤◌, ◌==◌, ◌&&◌, min, if◌then◌else◌, Bool, true, List, [], ◌++◌, codes, length, Option, None, Some, IfOk, IfErr, Result, Ok, Err, Vec}
+use Rattle.std.specs.Prelude.{⊤, ℕ, ◌≡◌, ◌⊎◌, ◌<◌, ◌≤◌, ◌==◌, ◌&&◌, min, if◌then◌else◌, Bool, List, [], ◌++◌, codes, length, Option, None, Some, IfOk, IfErr, Result, Ok, Err, Vec}
 use Rattle.std.specs.Fmt.{decimal}
 use Rattle.std.specs.declared.alloc.Global.{Global}
 use Rattle.std.specs.Io.KnownBytes.{Keeps}
@@ -22,6 +22,7 @@ use Rattle.pf_cli.specs.Noted.{AreNotes, OneOf, notes_in}
 use Rattle.pf_text.specs.FileName.{file_text}
 use Rattle.pf_cli.specs.Source.{IsHad, IsSource, told_name}
 use Rattle.pf_cli.specs.declared.noting.Noting.{Noting}
+use Rattle.pf_arguments.specs.declared.telling.Telling.{Telling}
 use Rattle.pf_cli.specs.Tasks.{AnswersMade}
 use Rattle.pf_cli.specs.Versions.{numbered}
 
@@ -49,17 +50,17 @@ ShowsHad (Ok script) outcome = ShowsBytes script.items outcome
 ShowsHad (Err fault) outcome = outcome ≡ Err fault
 
 -- what is to be told of one of two scripts
-abbrev pub pair_noting : Bool → Noting
-pair_noting asked = record { asked = asked; follows = true; range = Some whole }
+abbrev pub pair_noting : Telling → Noting
+pair_noting telling = record { asked = telling.whole; follows = telling.notes; hints = telling.notes; range = Some whole }
 
 -- what is seen at the end of the script of the file that is named, and else of what a reader had left, with its notes
-pub record Shows (file : Option (List ℕ)) (asked : Bool) (outcome : Result Seen Fault) (notes : Result (Vec ℕ Global) Fault)
+pub record Shows (file : Option (List ℕ)) (telling : Telling) (outcome : Result Seen Fault) (notes : Result (Vec ℕ Global) Fault)
     (old : Option (List ℕ)) (old_failed : ℕ) (new : Option (List ℕ)) (new_failed : ℕ) : Type 0 where
   pub script : Result (Vec ℕ Global) Fault
   pub had : IsHad script
   pub source : IsSource file script old old_failed new new_failed
   pub shows : ShowsHad script outcome
-  pub noted : AreNotes (pair_noting asked) (told_name file) script outcome notes
+  pub noted : AreNotes (pair_noting telling) (told_name file) script outcome notes
 
 -- how many slots a script stepped, on how many processors
 unfoldable pub size_text : ℕ → ℕ → List ℕ

@@ -1,5 +1,5 @@
 -- What the program does where words ask for a session at a desk.
-use Rattle.std.specs.Prelude.{ℕ, ◌≡◌, ◌⊎◌, ◌||◌, not, is_some, Bool, if◌then◌else◌, List, [], IfOk, Option, None, Some, Result, Ok, Err, Vec}
+use Rattle.std.specs.Prelude.{ℕ, ◌≡◌, ◌⊎◌, ◌||◌, not, is_some, Bool, true, if◌then◌else◌, List, [], IfOk, Option, None, Some, Result, Ok, Err, Vec}
 use Rattle.std.specs.declared.alloc.Global.{Global}
 use Rattle.pf_answers.specs.declared.manner.Manner.{Manner}
 use Rattle.pf_vocabulary.specs.Fault.Answers.{IsQuiet}
@@ -18,7 +18,7 @@ use Rattle.pf_stream.specs.declared.dialogue.answers.Going.{Going}
 use Rattle.pf_stream.specs.declared.dialogue.fault.SitFault.{SitFault}
 use Rattle.pf_stream.specs.declared.dialogue.fault.SitFault.TheVariants as stop
 use Rattle.pf_arguments.specs.Desks.{DeskNames}
-use Rattle.pf_cli.specs.Noted.{IsTold, IsUnreadNote, OneOf, notes_in, status_ended}
+use Rattle.pf_cli.specs.Noted.{IsTold, IsUnreadNote, notes_in, status_ended}
 use Rattle.pf_cli.specs.Source.{IsHad}
 use Rattle.pf_cli.specs.Status.{Tells as IsToldSo}
 
@@ -66,20 +66,19 @@ CameToAlone going behind outcome = CameTo going behind.has_bad outcome
 abbrev pub SatAlone : SessionState → Bool → Bool → ℕ → Streams → Streams → Type 0
 SatAlone begun prompts closed status old new = HasSatDown talk_alone CameToAlone begun prompts closed old.failed_prompts status old new
 
--- the script of this file could not be had, which is told where that is asked for
-abbrev pub IsUnread : Bool → List ℕ → Fault → Result (Vec ℕ Global) Fault → Type 0
-IsUnread asked name fault notes = IsHad (Err fault) × IfOk notes (λ note. IsUnreadNote asked name fault note.items)
+-- the script of this file could not be had, and why is told
+abbrev pub IsUnread : List ℕ → Fault → Result (Vec ℕ Global) Fault → Type 0
+IsUnread name fault notes = IsHad (Err fault) × IfOk notes (λ note. IsUnreadNote true name fault note.items)
 
--- no session begins after these bytes of this file, which is told where that is asked for: a record is bad, or memory was refused
-abbrev pub IsUnopened : Bool → Manner → List ℕ → List ℕ → Fault → Result (Vec ℕ Global) Fault → Type 0
-IsUnopened asked manner name script fault notes = IsOpened (opened manner script) (Err fault)
-    × OneOf asked (IfOk notes (λ note. IsFaultNote name script None fault note.items)) (notes_in notes ≡ [])
+-- no session begins after these bytes of this file, and why is told: a record is bad, or memory was refused
+abbrev pub IsUnopened : Manner → List ℕ → List ℕ → Fault → Result (Vec ℕ Global) Fault → Type 0
+IsUnopened manner name script fault notes = IsOpened (opened manner script) (Err fault) × IfOk notes (λ note. IsFaultNote name script (not manner.quiet) None fault note.items)
 
 -- why a session does not begin, and what is told of that: after no script, only where memory was refused
 abbrev pub DoesNotBegin : Manner → Option (List ℕ) → Fault → Result (Vec ℕ Global) Fault → Type 0
 DoesNotBegin manner None fault notes = (fault ≡ why.NoMemory) × (notes_in notes ≡ [])
 DoesNotBegin manner (Some file) fault notes =
-    IsUnread (not manner.quiet) file fault notes ⊎ ((script : List ℕ) × IsUnopened (not manner.quiet) manner file script fault notes)
+    IsUnread file fault notes ⊎ ((script : List ℕ) × IsUnopened manner file script fault notes)
 
 -- no session began, and why is told; nothing was read or written
 pub record HasNotBegun (manner : Manner) (file : Option (List ℕ)) (closed : Bool) (status : ℕ) (old new : Streams) : Type 0 where

@@ -28,7 +28,7 @@ use Rattle.pf_stream.specs.declared.dialogue.fault.SitFault.{SitFault}
 use Rattle.pf_stream.specs.declared.dialogue.fault.SitFault.TheVariants as stop
 use Rattle.pf_arguments.specs.Desks.{DeskNames}
 use Rattle.pf_cli.specs.Desks.{CameTo, DoesNotBegin, HasSatDown, HoldsDesk, manner_of}
-use Rattle.pf_cli.specs.Noted.{IsTold, OneOf, notes_in, status_ended}
+use Rattle.pf_cli.specs.Noted.{IsTold, notes_in, status_ended}
 use Rattle.pf_cli.specs.Status.{Tells as IsToldSo}
 use Rattle.pf_cli.specs.declared.noted.Noted.{Noted}
 
@@ -69,7 +69,7 @@ IsRefused manner script fault =
 -- a record of the file is bad, or memory was refused for its records, which is told as of a script
 abbrev pub IsBadJournal : Manner → List ℕ → Fault → Result (Vec ℕ Global) Fault → Type 0
 IsBadJournal manner path fault notes = (bytes : List ℕ) × IsOpened (session_on manner None bytes) (Err fault)
-    × OneOf (not manner.quiet) (IfOk notes (λ note. IsFaultNote path (script_of bytes) None fault note.items)) (notes_in notes ≡ [])
+    × IfOk notes (λ note. IsFaultNote path (script_of bytes) (not manner.quiet) None fault note.items)
 
 -- why none begins, and what is told of that: of the file, of a record of it, or of the script that is named
 abbrev pub DoesNotBeginOn : Manner → Option (List ℕ) → List ℕ → Noted → Type 0

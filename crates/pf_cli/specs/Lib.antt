@@ -16,6 +16,7 @@ pub mod Ends
 pub mod FaultLines
 pub mod Journals
 pub mod Noted
+pub mod Outputs
 pub mod RunFaults
 pub mod Runs
 pub mod Source

@@ -1,5 +1,5 @@
 -- What is told after an answer of a task, or after its fault.
-use Rattle.std.specs.Prelude.{ℕ, ◌≡◌, ◌||◌, ◌&&◌, not, Bool, true, false, if◌then◌else◌, List, [], ◌++◌, IfOk, Option, None, Some, Result, Ok, Err, Vec}
+use Rattle.std.specs.Prelude.{ℕ, ◌≡◌, ◌||◌, ◌&&◌, not, Bool, true, false, if◌then◌else◌, List, [], ◌∷◌, ◌++◌, IfOk, Option, None, Some, Result, Ok, Err, Vec}
 use Rattle.std.specs.declared.alloc.Global.{Global}
 use Rattle.std.specs.declared.io.ErrorKind.{ErrorKind}
 use Rattle.pf_vocabulary.specs.Fault.Answers.{status_of}
@@ -21,6 +21,7 @@ use Rattle.pf_vocabulary.specs.declared.options.slot_range.SlotRange.{SlotRange}
 use Rattle.pf_script_notes.specs.Behind.{NotesMade}
 use Rattle.pf_script_notes.specs.Faults.{IsFaultNote}
 use Rattle.pf_arguments.specs.declared.task.Task.{Task}
+use Rattle.pf_arguments.specs.declared.telling.Telling.{Telling}
 use Rattle.pf_arguments.specs.declared.task.Task.TheVariants.{Run, RunTasks, Check, CheckRun, Diff, Drill, Convert, Fit, Why}
 use Rattle.pf_cli.specs.FaultLines.{fault_line}
 use Rattle.pf_cli.specs.declared.noting.Noting.{Noting}
@@ -47,8 +48,9 @@ shown_range (Run format fail_on) = range_shown format
 shown_range (RunTasks format words fail_on) = Some (range_of format)
 shown_range task = Some whole
 
-abbrev pub noting_of : Bool → Task → Noting
-noting_of asked task = record { asked = asked; follows = is_followed task; range = shown_range task }
+abbrev pub noting_of : Telling → Task → Noting
+noting_of telling task =
+    record { asked = telling.whole; follows = is_followed task && telling.notes; hints = telling.notes; range = shown_range task }
 
 -- they do not follow an answer that tells of a mistake in what the words ask for
 abbrev pub is_of_words : Status → Bool
@@ -78,7 +80,7 @@ OneOf false one other = other
 -- after an answer to the script of this file: the notes of its run, where they follow; or after its fault
 abbrev pub AreNotesAsked : {A : Type 0} → Noting → List ℕ → List ℕ → Result A Fault → Result (Vec ℕ Global) Fault → Type 0
 AreNotesAsked noting name script (Ok answer) made = OneOf noting.follows (NotesMade name script made) (notes_in made ≡ [])
-AreNotesAsked noting name script (Err fault) made = IfOk made (λ note. IsFaultNote name script noting.range fault note.items)
+AreNotesAsked noting name script (Err fault) made = IfOk made (λ note. IsFaultNote name script noting.hints noting.range fault note.items)
 
 -- nothing where no notes are asked for
 abbrev pub AreNotesOf : {A : Type 0} → Noting → List ℕ → List ℕ → Result A Fault → Result (Vec ℕ Global) Fault → Type 0
@@ -111,9 +113,13 @@ abbrev pub status_ended : Bool → Status → Result Ending Fault → ℕ
 status_ended closed otherwise (Err why.Write) = number_of (if closed then otherwise else StreamFailed)
 status_ended closed otherwise answer = status_of answer
 
--- what a task has to tell and the notes after it, or the line of its fault and the notes after that; nothing where nobody reads
--- the output any more
+-- of a fault: its message, or its line where there is none
+abbrev pub fault_text : Fault → List ℕ → List ℕ
+fault_text fault [] = fault_line fault
+fault_text fault (byte ∷ message) = byte ∷ message
+
+-- what a task has to tell and the notes after it, or what is told of its fault; nothing where nobody reads the output any more
 abbrev pub IsTold : Bool → Result Ending Fault → List ℕ → (List ℕ → Type 0) → Type 0
 IsTold closed (Ok ending) notes told = told (ending.notes.items ++ notes)
-IsTold closed (Err why.Write) notes told = OneOf closed (told []) (told (fault_line why.Write ++ notes))
-IsTold closed (Err fault) notes told = told (fault_line fault ++ notes)
+IsTold closed (Err why.Write) notes told = OneOf closed (told []) (told (fault_text why.Write notes))
+IsTold closed (Err fault) notes told = told (fault_text fault notes)

@@ -11,6 +11,7 @@ use Rattle.pf_vocabulary.specs.Fault.Faults.{CountsWrites, number_of}
 use Rattle.pf_arguments.specs.declared.request.WordsFault.{WordsFault}
 use Rattle.pf_arguments.specs.declared.request.WordsFault.TheVariants as words
 use Rattle.pf_arguments.specs.declared.task.Task.{Task}
+use Rattle.pf_arguments.specs.declared.telling.Telling.{Telling}
 use Rattle.pf_arguments.specs.declared.task.Task.TheVariants.{Convert, Fit}
 use Rattle.clap.specs.Words.{subcommand_of}
 use Rattle.pf_arguments.specs.Asked.{task_asked, pair_asked, desk_asked, file_asked, telling_asked, AsksHelp, AsksVersion, IsMistakeText, IsRefused, IsShownTo, AreMistaken}
@@ -90,69 +91,69 @@ pub record ReadsNothing (words : List (List ℕ)) (closed : Bool) (status : ℕ)
   pub memory : status ≡ 4 → told (fault_line why.NoMemory)
 
 -- this answer is one to a task with this script; where that was not had, its fault is the answer, and the writer is as it was
-abbrev pub AnswersScript : Task → List ℕ → Result (Vec ℕ Global) Fault → Result Ending Fault → Option (List ℕ) → Option (List ℕ) → Type 0
-AnswersScript task file (Ok script) answer old new = AnswersBytes task file script.items answer old new
-AnswersScript task file (Err fault) answer old new = (answer ≡ Err fault) × Keeps old new
+abbrev pub AnswersScript : Bool → Task → List ℕ → Result (Vec ℕ Global) Fault → Result Ending Fault → Option (List ℕ) → Option (List ℕ) → Type 0
+AnswersScript hints task file (Ok script) answer old new = AnswersBytes hints task file script.items answer old new
+AnswersScript hints task file (Err fault) answer old new = (answer ≡ Err fault) × Keeps old new
 
 -- this answer is one to a task with the script of the file that is named, and else of the reader, with its notes where they are
 -- asked for; the writer failed as it says
-pub record IsDone (task : Task) (file : Option (List ℕ)) (asked : Bool) (noted : Noted) (old new : Streams) : Type 0 where
+pub record IsDone (task : Task) (file : Option (List ℕ)) (telling : Telling) (noted : Noted) (old new : Streams) : Type 0 where
   pub script : Result (Vec ℕ Global) Fault
   pub had : IsHad script
   pub source : IsSource file script old.input old.failed_reads new.input new.failed_reads
-  pub answers : AnswersScript task (told_name file) script noted.outcome old.output new.output
+  pub answers : AnswersScript telling.notes task (told_name file) script noted.outcome old.output new.output
   pub writes : CountsWrites noted.outcome old.failed_writes new.failed_writes
-  pub notes : AreNotes (noting_behind (noting_of asked task) noted.outcome) (told_name file) script noted.outcome noted.notes
+  pub notes : AreNotes (noting_behind (noting_of telling task) noted.outcome) (told_name file) script noted.outcome noted.notes
 
 -- after the first of two scripts: its fault is the answer, and then the second is not read; else the second is, and both are
 -- compared
-abbrev pub ComparesBehind : PairNames → Bool → Result Seen Fault → Result (Vec ℕ Global) Fault → Noted → Streams → Streams → Type 0
-ComparesBehind names asked (Ok before) first_notes noted old new =
+abbrev pub ComparesBehind : PairNames → Telling → Result Seen Fault → Result (Vec ℕ Global) Fault → Noted → Streams → Streams → Type 0
+ComparesBehind names telling (Ok before) first_notes noted old new =
     (second : Result Seen Fault) × (second_notes : Result (Vec ℕ Global) Fault)
-    × Shows names.second asked second second_notes old.input old.failed_reads new.input new.failed_reads
+    × Shows names.second telling second second_notes old.input old.failed_reads new.input new.failed_reads
     × AnswersSecond names.options before second noted.outcome old.output new.output
-    × PairNotes names asked before second first_notes second_notes noted.outcome noted.notes
-ComparesBehind names asked (Err fault) first_notes noted old new =
+    × PairNotes names telling.notes before second first_notes second_notes noted.outcome noted.notes
+ComparesBehind names telling (Err fault) first_notes noted old new =
     (noted.outcome ≡ Err fault) × (noted.notes ≡ first_notes) × (new.input ≡ old.input) × (new.failed_reads ≡ old.failed_reads) × Keeps old.output new.output
 
 -- this answer is one to two scripts, each of the file that is named or of the reader: the first is read, and nothing is written
 -- before both were
-pub record ComparesScripts (names : PairNames) (asked : Bool) (noted : Noted) (old new : Streams) : Type 0 where
+pub record ComparesScripts (names : PairNames) (telling : Telling) (noted : Noted) (old new : Streams) : Type 0 where
   pub between : Streams
   pub first : Result Seen Fault
   pub first_notes : Result (Vec ℕ Global) Fault
-  pub shows : Shows names.first asked first first_notes old.input old.failed_reads between.input between.failed_reads
+  pub shows : Shows names.first telling first first_notes old.input old.failed_reads between.input between.failed_reads
   pub unwritten : (between.output ≡ old.output) × (between.failed_writes ≡ old.failed_writes)
-  pub answers : ComparesBehind names asked first first_notes noted between new
+  pub answers : ComparesBehind names telling first first_notes noted between new
   pub writes : CountsWrites noted.outcome old.failed_writes new.failed_writes
 
 -- two scripts were compared or not, the status is that of the answer, and `told` holds of what it has to tell with its notes
-pub record Compares (names : PairNames) (asked closed : Bool) (status : ℕ) (old new : Streams) (told : List ℕ → Type 0) : Type 0 where
+pub record Compares (names : PairNames) (telling : Telling) (closed : Bool) (status : ℕ) (old new : Streams) (told : List ℕ → Type 0) : Type 0 where
   pub noted : Noted
   pub status_is : status ≡ status_ended closed (gone_diff names.options) noted.outcome
-  pub done : ComparesScripts names asked noted old new
+  pub done : ComparesScripts names telling noted old new
   pub told_is : IsTold closed noted.outcome (notes_in noted.notes) told
 
 -- a task was done or not, the status is that of the answer, and `told` holds of what it has to tell with its notes
-pub record Does (task : Task) (file : Option (List ℕ)) (asked closed : Bool) (status : ℕ) (old new : Streams) (told : List ℕ → Type 0) : Type 0 where
+pub record Does (task : Task) (file : Option (List ℕ)) (telling : Telling) (closed : Bool) (status : ℕ) (old new : Streams) (told : List ℕ → Type 0) : Type 0 where
   pub noted : Noted
   pub status_is : status ≡ status_ended closed (gone_of task) noted.outcome
-  pub done : IsDone task file asked noted old new
+  pub done : IsDone task file telling noted old new
   pub told_is : IsTold closed noted.outcome (notes_in noted.notes) told
 
 -- words that ask for a task have it done with the script of the file that they name, and else with the reader's; those that name
 -- two scripts have them compared; of those that ask for a session at a desk `held` tells; where they ask for nothing, nothing is read
-abbrev pub AnswersAsked : List (List ℕ) → Option Task → Option PairNames → Option DeskNames → Option (List ℕ) → Bool → Bool → ℕ → Streams → Streams
+abbrev pub AnswersAsked : List (List ℕ) → Option Task → Option PairNames → Option DeskNames → Option (List ℕ) → Telling → Bool → ℕ → Streams → Streams
     → (List ℕ → Type 0) → (DeskNames → Type 0) → Type 0
-AnswersAsked words (Some task) pair desk file asked closed status old new told held = Does task file asked closed status old new told
-AnswersAsked words None (Some names) desk file asked closed status old new told held = Compares names asked closed status old new told
-AnswersAsked words None None (Some desk) file asked closed status old new told held = held desk
-AnswersAsked words None None None file asked closed status old new told held = ReadsNothing words closed status old new told
+AnswersAsked words (Some task) pair desk file telling closed status old new told held = Does task file telling closed status old new told
+AnswersAsked words None (Some names) desk file telling closed status old new told held = Compares names telling closed status old new told
+AnswersAsked words None None (Some desk) file telling closed status old new told held = held desk
+AnswersAsked words None None None file telling closed status old new told held = ReadsNothing words closed status old new told
 
 -- whether nobody reads the output any more, the status, the streams, and what holds of what is told, and of a session
 abbrev pub AnswersWords : List (List ℕ) → Bool → ℕ → Streams → Streams → (List ℕ → Type 0) → (DeskNames → Type 0) → Type 0
 AnswersWords words closed status old new told held =
-    AnswersAsked words (task_asked words) (pair_asked words) (desk_asked words) (file_asked words) (telling_asked words).notes closed status old new
+    AnswersAsked words (task_asked words) (pair_asked words) (desk_asked words) (file_asked words) (telling_asked words) closed status old new
     told held
 
 -- what a terminal is told before what this task takes is read from it

@@ -1,11 +1,8 @@
 -- What the program answers to a task with a script of any version: with a plan by the script of version 2 that belongs
 -- to it.
-use Rattle.std.specs.Prelude.{ℕ, ◌≡◌, ◌+◌, ◌-◌, ◌⊎◌, ◌<◌, ◌≤◌, ◌==◌, ◌||◌, nat_lt, if◌then◌else◌, List, [], ◌∷◌, length, Option, None, Some, IfOk, IfErr, Result, Ok, Err}
+use Rattle.std.specs.Prelude.{ℕ, ◌≡◌, ◌+◌, ◌-◌, ◌⊎◌, ◌<◌, ◌≤◌, ◌==◌, ◌||◌, nat_lt, if◌then◌else◌, Bool, List, [], ◌∷◌, length, Option, None, Some, Result, Ok, Err}
 use Rattle.std.specs.List.{slice_index_or}
 use Rattle.std.specs.Io.KnownBytes.{Keeps}
-use Rattle.pf_script.specs.PlanCheck.Checked.{ChecksPlan}
-use Rattle.pf_check_run.specs.Answers.{ChecksPlanRun, IsPlanStopped}
-use Rattle.pf_vocabulary.specs.declared.fault.answer.Answer.{Answer}
 use Rattle.pf_vocabulary.specs.declared.fault.ending.Ending.{Ending}
 use Rattle.pf_vocabulary.specs.declared.fault.fault.Fault.{Fault}
 use Rattle.pf_vocabulary.specs.declared.fault.fault.Fault.TheVariants as why
@@ -16,7 +13,7 @@ use Rattle.pf_stream.specs.Reading.{longest_script}
 use Rattle.pf_text.specs.Page.{table_text}
 use Rattle.pf_arguments.specs.declared.task.Task.{Task}
 use Rattle.pf_arguments.specs.declared.task.Task.TheVariants.{Run, RunTasks, Check, CheckRun, Diff, Drill, Convert, Fit, Why}
-use Rattle.pf_cli.specs.Tasks.{AnswersMade, AnswersTask}
+use Rattle.pf_cli.specs.Tasks.{AnswersTask}
 
 -- how many come from a record before this one
 abbrev pub count_below : ℕ → List Origin → ℕ
@@ -55,49 +52,36 @@ abbrev pub numbered : {A : Type 0} → List Origin → Result A Fault → Result
 numbered origins (Ok answer) = Ok answer
 numbered origins (Err fault) = Err (numbered_fault origins fault)
 
--- the answer to a check
-abbrev pub IsChecked : List ℕ → Result Answer Fault → Type 0
-IsChecked script (Ok made) = ChecksPlan script made
-IsChecked script (Err fault) = fault ≡ why.NoMemory
-
--- the answer to a plan that is checked and carried out
-pub record PlanRunMade (p : Plain) (file script : List ℕ) (made : Result Answer Fault) : Type 0 where
-  pub answer : IfOk made (ChecksPlanRun p file script)
-  pub stopped : IfErr made (IsPlanStopped p)
-
-abbrev pub AnswersPlanRun : Plain → List ℕ → List ℕ → Result Ending Fault → Option (List ℕ) → Option (List ℕ) → Type 0
-AnswersPlanRun p file script answer old new = (made : Result Answer Fault) × PlanRunMade p file script made × AnswersMade made answer old new
-
 -- the task was done with the script of version 2, whose records come from those of a plan
-abbrev pub AnswersRecords : Plain → Task → List ℕ → Result Ending Fault → Option (List ℕ) → Option (List ℕ) → Type 0
-AnswersRecords p task file inner old new = AnswersTask p.titles (Some p.origins) (task_in p task) file (table_text p.records) inner old new
+abbrev pub AnswersRecords : Plain → Bool → Task → List ℕ → Result Ending Fault → Option (List ℕ) → Option (List ℕ) → Type 0
+AnswersRecords p hints task file inner old new = AnswersTask p.titles (Some p.origins) hints (task_in p task) file (table_text p.records) inner old new
 
-abbrev pub AnswersPlain : Plain → Task → List ℕ → Result Ending Fault → Option (List ℕ) → Option (List ℕ) → Type 0
-AnswersPlain p task file answer old new =
-    (inner : Result Ending Fault) × AnswersRecords p task file inner old new × (answer ≡ numbered p.origins inner)
+abbrev pub AnswersPlain : Plain → Bool → Task → List ℕ → Result Ending Fault → Option (List ℕ) → Option (List ℕ) → Type 0
+AnswersPlain p hints task file answer old new =
+    (inner : Result Ending Fault) × AnswersRecords p hints task file inner old new × (answer ≡ numbered p.origins inner)
 
 -- where that is short enough
-pub record AnswersShort (p : Plain) (task : Task) (file : List ℕ) (answer : Result Ending Fault) (old new : Option (List ℕ)) : Type 0 where
-  pub short : length (table_text p.records) ≤ longest_script → AnswersPlain p task file answer old new
+pub record AnswersShort (p : Plain) (hints : Bool) (task : Task) (file : List ℕ) (answer : Result Ending Fault) (old new : Option (List ℕ)) : Type 0 where
+  pub short : length (table_text p.records) ≤ longest_script → AnswersPlain p hints task file answer old new
   pub long : longest_script < length (table_text p.records) → (answer ≡ Err why.TooLong) × Keeps old new
 
--- the answer to a task with a plan; a list of tasks is no script, however it begins
-abbrev pub AnswersPlan : Plain → Task → List ℕ → List ℕ → Result Ending Fault → Option (List ℕ) → Option (List ℕ) → Type 0
-AnswersPlan p Check file script answer old new = (made : Result Answer Fault) × IsChecked script made × AnswersMade made answer old new
-AnswersPlan p CheckRun file script answer old new = AnswersPlanRun p file script answer old new
-AnswersPlan p (Run format fail_on) file script answer old new = AnswersShort p (Run format fail_on) file answer old new
-AnswersPlan p (RunTasks format words fail_on) file script answer old new = AnswersShort p (RunTasks format words fail_on) file answer old new
-AnswersPlan p (Diff since options) file script answer old new = AnswersShort p (Diff since options) file answer old new
-AnswersPlan p Drill file script answer old new = AnswersShort p Drill file answer old new
-AnswersPlan p (Convert conversion) file list answer old new = AnswersTask untitled None (Convert conversion) file list answer old new
-AnswersPlan p (Fit format) file script answer old new = AnswersShort p (Fit format) file answer old new
-AnswersPlan p (Why question) file script answer old new = AnswersShort p (Why question) file answer old new
+-- the answer to a task with a plan; a check reads the plan itself, and a list of tasks is no script, however it begins
+abbrev pub AnswersPlan : Plain → Bool → Task → List ℕ → List ℕ → Result Ending Fault → Option (List ℕ) → Option (List ℕ) → Type 0
+AnswersPlan p hints Check file script answer old new = AnswersTask untitled None hints Check file script answer old new
+AnswersPlan p hints CheckRun file script answer old new = AnswersTask untitled None hints CheckRun file script answer old new
+AnswersPlan p hints (Run format fail_on) file script answer old new = AnswersShort p hints (Run format fail_on) file answer old new
+AnswersPlan p hints (RunTasks format words fail_on) file script answer old new = AnswersShort p hints (RunTasks format words fail_on) file answer old new
+AnswersPlan p hints (Diff since options) file script answer old new = AnswersShort p hints (Diff since options) file answer old new
+AnswersPlan p hints Drill file script answer old new = AnswersShort p hints Drill file answer old new
+AnswersPlan p hints (Convert conversion) file list answer old new = AnswersTask untitled None hints (Convert conversion) file list answer old new
+AnswersPlan p hints (Fit format) file script answer old new = AnswersShort p hints (Fit format) file answer old new
+AnswersPlan p hints (Why question) file script answer old new = AnswersShort p hints (Why question) file answer old new
 
 -- the answer to a task with a script of any version, in the file of this name
-abbrev pub AnswersOf : Option Plain → Task → List ℕ → List ℕ → Result Ending Fault → Option (List ℕ) → Option (List ℕ) → Type 0
-AnswersOf None task file script answer old new = AnswersTask untitled None task file script answer old new
-AnswersOf (Some p) task file script answer old new = AnswersPlan p task file script answer old new
+abbrev pub AnswersOf : Option Plain → Bool → Task → List ℕ → List ℕ → Result Ending Fault → Option (List ℕ) → Option (List ℕ) → Type 0
+AnswersOf None hints task file script answer old new = AnswersTask untitled None hints task file script answer old new
+AnswersOf (Some p) hints task file script answer old new = AnswersPlan p hints task file script answer old new
 
-abbrev pub AnswersBytes : Task → List ℕ → List ℕ → Result Ending Fault → Option (List ℕ) → Option (List ℕ) → Type 0
-AnswersBytes task file script answer old new =
-    AnswersOf (plain script) task file script answer old new ⊎ ((answer ≡ Err why.NoMemory) × Keeps old new)
+abbrev pub AnswersBytes : Bool → Task → List ℕ → List ℕ → Result Ending Fault → Option (List ℕ) → Option (List ℕ) → Type 0
+AnswersBytes hints task file script answer old new =
+    AnswersOf (plain script) hints task file script answer old new ⊎ ((answer ≡ Err why.NoMemory) × Keeps old new)

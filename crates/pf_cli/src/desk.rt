@@ -159,7 +159,7 @@ fn begin<H: AllocGlobal + Files>(rt: &H, words: &DeskWords) -> Result<Session, U
         Ok(script) => begin_with(alloc, words, manner, &script),
         Err(reading) => {
             let fault = Fault::from(reading);
-            let notes = unread_note(rt, !words.quiet, &words.script, fault);
+            let notes = unread_note(rt, true, &words.script, fault);
             Err(Unbegun { fault, notes })
         }
     }
@@ -173,13 +173,13 @@ fn begin_with(
     script: &[u8],
 ) -> Result<Session, Unbegun>
     ensures opened { IfOk result (λ s. opened manner script.now ≡ Ok s) }
-    ensures unopened { IfErr result (λ u. IsUnopened (not words.now.quiet) manner (told_name (name_of words.now.script)) script.now u.fault u.notes) }
+    ensures unopened { IfErr result (λ u. IsUnopened manner (told_name (name_of words.now.script)) script.now u.fault u.notes) }
 {
+    let hints = !manner.quiet;
     match open_script(alloc, manner, script) {
         Ok(session) => Ok(session),
-        Err(fault) if words.quiet => Err(untold(alloc, fault)),
         Err(fault) => {
-            let notes = fault_note(alloc, told_name(&words.script), script, None, fault);
+            let notes = fault_note(alloc, told_name(&words.script), script, hints, None, fault);
             Err(Unbegun { fault, notes })
         }
     }

@@ -2,8 +2,7 @@ ghost use Rattle.std.specs.Prelude.{◌≡◌, ◌≢◌, ◌+◌, ◌-◌, ◌^
 ghost use Rattle.std.specs.Io.KnownBytes.{Keeps};
 ghost use Rattle.pf_vocabulary.specs.declared.fault.fault.Fault.TheVariants as why;
 ghost use Rattle.pf_vocabulary.specs.Fault.Faults.{number_of, status_behind};
-ghost use Rattle.pf_cli.specs.FaultLines.{fault_line};
-ghost use Rattle.pf_cli.specs.Noted.{IsTold, notes_in, status_ended};
+ghost use Rattle.pf_cli.specs.Noted.{IsTold, fault_text, notes_in, status_ended};
 ghost use Rattle.pf_cli.specs.Status.{Tells};
 ghost use Rattle.pf_cli.specs.Tasks.{IsQuietIfDone};
 
@@ -17,8 +16,7 @@ use pf_vocabulary::fault::status::Status;
 use std::fmt::Display;
 use std::io::Write;
 
-/// Tells what a task has to tell, and the notes after it, or the line of its fault, and what is told after that; answers the
-/// status. Where the output failed since nobody reads it any more, nothing is told, and the status is `gone`.
+/// Tells what a task has to tell, and the notes after it, or its fault, by its message or else by its line; answers the status. Where the output failed since nobody reads it any more, nothing is told, and the status is `gone`.
 pub(crate) fn end<F: Sink>(noted: Noted, closed: bool, gone: Status, faults: &mut F) -> u8
     requires { F.failed faults.old < 2 ^ 64 - 1 }
     ensures status { result ≡ status_ended closed gone noted.outcome }
@@ -69,26 +67,31 @@ pub(crate) fn end_unwritten<F: Sink>(notes: &[u8], closed: bool, gone: Status, f
     end_faulty(Fault::Write, notes, faults)
 }
 
-/// Tells a fault, and the notes after its line, and answers its status, which is not 0.
+/// Tells a fault, by its message or else by its line, and answers its status, which is not 0.
 #[tactic(auto, using(crate::proofs::Quiet::never_zero))]
 fn end_faulty<F: Sink>(fault: Fault, notes: &[u8], faults: &mut F) -> u8
     requires { F.failed faults.old < 2 ^ 64 - 1 }
     ensures status { result ≡ number_of (status_behind fault) }
-    ensures told { Tells (F.contents faults.old) (F.contents faults.new) (F.failed faults.old) (F.failed faults.new) (fault_line fault ++ notes.now) }
+    ensures told { Tells (F.contents faults.old) (F.contents faults.new) (F.failed faults.old) (F.failed faults.new) (fault_text fault notes.now) }
     ensures not_done { result ≢ 0 }
 {
     tell_fault(fault, notes, faults);
     fault.status().number()
 }
 
-/// Tells a fault, and the notes after its line, which are left out where a write of that line fails. A fault of writing is passed
-/// over: it could be told nowhere.
-pub(crate) fn tell_fault<F: Sink>(fault: Fault, notes: &[u8], faults: &mut F)
+/// Tells a fault: its message, or its line where there is none. A fault of writing is passed over: it could be told nowhere.
+#[tactic(auto, using(crate::proofs::Telling::one_told))]
+pub(crate) fn tell_fault<F: Sink>(fault: Fault, message: &[u8], faults: &mut F)
     requires { F.failed faults.old < 2 ^ 64 - 1 }
-    ensures { Tells (F.contents faults.old) (F.contents faults.new) (F.failed faults.old) (F.failed faults.new) (fault_line fault ++ notes.now) }
+    ensures { Tells (F.contents faults.old) (F.contents faults.new) (F.failed faults.old) (F.failed faults.new) (fault_text fault message.now) }
 {
-    if write_fault(fault, faults).is_ok() {
-        let _ = write_out(faults, notes);
+    match message {
+        [] => {
+            let _ = write_fault(fault, faults);
+        }
+        _ => {
+            let _ = write_out(faults, message);
+        }
     }
 }
 

@@ -7,7 +7,7 @@ ghost use Rattle.pf_script_notes.specs.Faults.{IsFaultNote};
 ghost use Rattle.pf_arguments.specs.Asked.{desk_named};
 ghost use Rattle.pf_cli.specs.Desks.{manner_of};
 ghost use Rattle.pf_cli.specs.Journals.{BeginsOn, DoesNotBeginOn, told_sizes};
-ghost use Rattle.pf_cli.specs.Noted.{OneOf, notes_in};
+ghost use Rattle.pf_cli.specs.Noted.{notes_in};
 
 use crate::manner::manner_of;
 use crate::noted::Noted;
@@ -78,7 +78,7 @@ fn make_on<'a, H: AllocGlobal + Locks, D: Disk + Drop>(
         Err(reading) => {
             drop(found);
             let fault = Fault::from(reading);
-            let notes = unread_note(rt, !words.quiet, &words.script, fault);
+            let notes = unread_note(rt, true, &words.script, fault);
             Err(Noted {
                 outcome: Err(fault),
                 notes,
@@ -171,15 +171,16 @@ fn noted_of(
         Unopened::Journal(fault) => refused(alloc, words, path, fault),
         Unopened::Record(fault, lines) => Noted {
             outcome: Err(fault),
-            notes: note_of(alloc, !words.quiet, path.as_bytes(), &lines, fault),
+            notes: fault_note(alloc, path.as_bytes(), &lines, !words.quiet, None, fault),
         },
         Unopened::Script(fault) => Noted {
             outcome: Err(fault),
-            notes: note_of(
+            notes: fault_note(
                 alloc,
-                !words.quiet,
                 told_name(&words.script),
                 script.unwrap_or(b""),
+                !words.quiet,
+                None,
                 fault,
             ),
         },
@@ -195,20 +196,4 @@ fn refused(alloc: Global, words: &DeskWords, path: &str, fault: JournalFault) ->
         outcome: fault.outcome(alloc, path.as_bytes(), !words.quiet),
         notes: Ok(Vec::new(alloc)),
     }
-}
-
-/// The note after a fault of these lines in the file of this name, where it is asked for.
-fn note_of(
-    alloc: Global,
-    asked: bool,
-    file: &[u8],
-    lines: &[u8],
-    fault: Fault,
-) -> Result<Vec<u8>, Fault>
-    ensures { OneOf asked (IfOk result (λ note. IsFaultNote file.now lines.now None fault note.items)) (notes_in result ≡ []) }
-{
-    if !asked {
-        return Ok(Vec::new(alloc));
-    }
-    fault_note(alloc, file, lines, None, fault)
 }

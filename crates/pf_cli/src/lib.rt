@@ -16,6 +16,7 @@ mod noted;
 mod notes;
 mod noting;
 mod open_gate;
+mod output_file;
 mod pair_notes;
 pub mod program;
 pub mod run;

@@ -46,7 +46,7 @@ pub(crate) fn notes_behind<A>(
         return Ok(Vec::new(alloc));
     }
     match answer {
-        Err(fault) => fault_note(alloc, file, script, noting.range, *fault),
+        Err(fault) => fault_note(alloc, file, script, noting.hints, noting.range, *fault),
         Ok(_) if noting.follows => script_notes(alloc, file, script),
         Ok(_) => Ok(Vec::new(alloc)),
     }

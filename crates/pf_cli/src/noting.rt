@@ -3,6 +3,7 @@ ghost use Rattle.pf_cli.specs.Compared.{pair_noting};
 ghost use Rattle.pf_cli.specs.Noted.{is_followed, noting_behind, noting_of, shown_range};
 
 use pf_arguments::task::Task;
+use pf_arguments::telling::Telling;
 use pf_vocabulary::fault::ending::Ending;
 use pf_vocabulary::fault::fault::Fault;
 use pf_vocabulary::fault::status::Status;
@@ -12,22 +13,25 @@ use pf_vocabulary::options::slot_range::SlotRange;
 /// What is to be told of a script after what a task answers to it.
 #[derive(Clone, Copy)]
 pub(crate) struct Noting {
-    /// Whether anything is.
+    /// Whether messages of faults are whole.
     pub(crate) asked: bool,
     /// Whether its notes follow where the task was done.
     pub(crate) follows: bool,
+    /// Whether messages have hints.
+    pub(crate) hints: bool,
     /// The slots that the task was to show; none of a page, which shows all.
     pub(crate) range: Option<SlotRange>,
 }
 
 impl Noting {
     /// That of a task.
-    pub(crate) fn of(asked: bool, task: &Task) -> Noting
-        ensures { result ≡ noting_of asked task.now }
+    pub(crate) fn of(telling: Telling, task: &Task) -> Noting
+        ensures { result ≡ noting_of telling task.now }
     {
         Noting {
-            asked,
-            follows: is_followed(task),
+            asked: telling.whole,
+            follows: is_followed(task) && telling.notes,
+            hints: telling.notes,
             range: shown_range(task),
         }
     }
@@ -40,6 +44,7 @@ impl Noting {
             Ok(ending) => Noting {
                 asked: self.asked,
                 follows: self.follows && ending.status != Status::BadWords,
+                hints: self.hints,
                 range: self.range,
             },
             Err(_) => self,
@@ -47,12 +52,13 @@ impl Noting {
     }
 
     /// That of one of two scripts.
-    pub(crate) fn of_two(asked: bool) -> Noting
-        ensures { result ≡ pair_noting asked }
+    pub(crate) fn of_two(telling: Telling) -> Noting
+        ensures { result ≡ pair_noting telling }
     {
         Noting {
-            asked,
-            follows: true,
+            asked: telling.whole,
+            follows: telling.notes,
+            hints: telling.notes,
             range: Some(SlotRange::whole()),
         }
     }

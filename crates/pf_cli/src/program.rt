@@ -1,9 +1,10 @@
-ghost use Rattle.std.specs.Prelude.{false, true, not, None, ◌&&◌, ◌≡◌, ◌≢◌, ◌^◌, ◌-◌, ◌<◌, ◌≤◌, ◌+◌, [], map, IfOk, IfSome, IsSome};
+ghost use Rattle.std.specs.Prelude.{false, true, not, None, ◌&&◌, ◌≡◌, ◌≢◌, ◌⊎◌, ◌^◌, ◌-◌, ◌<◌, ◌≤◌, ◌+◌, [], map, IfOk, IfSome, IsSome};
 ghost use Rattle.std.specs.IoError.{error_kind};
 ghost use Rattle.std.specs.Io.KnownBytes.{Keeps};
 ghost use Rattle.pf_stream.specs.HeldAnswers.Streams.{streams_of};
 ghost use Rattle.pf_cli.specs.Journals.{HoldsWith};
 ghost use Rattle.pf_arguments.specs.Asked.{IsSound, desk_asked, name_of, reads_input, task_asked, telling_asked};
+ghost use Rattle.pf_arguments.specs.Outputs.{output_asked};
 ghost use Rattle.pf_cli.specs.Noted.{notes_in};
 ghost use Rattle.pf_cli.specs.Tasks.{IsOfScript, IsQuietIfDone};
 ghost use Rattle.pf_cli.specs.Status.{AnswersWords, IsDone, IsPrompted, IsWritten, Tells, prompt_for, prompt_text, seen_streams, status_of_words, told_of};
@@ -13,21 +14,25 @@ use crate::ending::{end, end_unwritten, tell, tell_fault, tell_text};
 use crate::gone::{gone_diff, gone_of};
 use crate::noted::Noted;
 use crate::notes::unread_note;
+use crate::output_file::OutputFile;
 use crate::script_source::{read_source, told_name};
 use crate::two_scripts::compare_scripts;
 use crate::versions::do_script;
+use pf_arguments::output_words::read_output;
 use pf_arguments::request::{Request, WordsFault};
 use pf_arguments::task::Task;
+use pf_arguments::telling::Telling;
 use pf_arguments::words::read_words;
 use pf_journal_file::journals::Journals;
 use pf_session_turns::files::Locks;
+use pf_stream::pipes::kept_writer::KeptWriter;
 use pf_stream::pipes::pipe::Pipe;
 use pf_stream::sink::Sink;
 use pf_stream::source::Source;
 use pf_stream::writing::write_out;
 use pf_vocabulary::fault::fault::Fault;
 use pf_vocabulary::fault::status::Status;
-use std::alloc::Global;
+use std::alloc::{AllocError, Global};
 use std::convert::AsStr;
 use std::io;
 use std::io::{ErrorKind, Write};
@@ -64,7 +69,8 @@ const NO_TEXT: &str = "error: invalid UTF-8 was detected in one or more argument
 /// or read, 4 where memory was refused, or a drill has no place for a reader, 6 where the script was done, all was written, and
 /// the run fails on what the words list, or no plan fits. Words that ask for a session, those that ask for a run, a check, a diff or a conversion and name no
 /// file, or `-` as one of two, or for a drill, and no others, have the reader read; with any other the reader is as before. Where
-/// the words ask for a drill, and only there, threads are started, and the call waits for them. The counts of failures of all
+/// the words ask for a drill, and only there, threads are started, and the call waits for them. A file that they name for the answer is
+/// left to `answer_words`. The counts of failures of all
 /// three streams must be below `u64::MAX` before the call.
 pub fn main_words<
     H: AllocGlobal + Locks + Threads + Wait + Sync,
@@ -99,12 +105,12 @@ pub fn main_words<
     match read_words(rt.alloc(), words) {
         Ok(Request::Do(task, file, telling)) => {
             let gone = gone_of(&task);
-            let noted = do_asked(rt, task, &file, telling.notes, reader, writer);
+            let noted = do_asked(rt, task, &file, telling, reader, writer);
             end(noted, writer.is_closed(), gone, faults)
         }
         Ok(Request::Compare(pair, telling)) => {
             let gone = gone_diff(pair.options);
-            let noted = compare_scripts(rt, &pair, telling.notes, reader, writer);
+            let noted = compare_scripts(rt, &pair, telling, reader, writer);
             end(noted, writer.is_closed(), gone, faults)
         }
         Ok(Request::Sit(desk)) => {
@@ -115,30 +121,77 @@ pub fn main_words<
     }
 }
 
+/// Does what the program's words say, as `main_words` does; but where they name a file for the answer by `--output`, it is written there,
+/// whole or not at all, and the writer is as it was. Answers the status to exit with: that of `main_words`, or 3 where the file can't be
+/// written, which is told, or 4 where memory was refused for its name. The counts of failures of all three streams must be below
+/// `u64::MAX` before the call.
+pub fn answer_words<
+    H: AllocGlobal + Locks + Threads + Wait + Sync,
+    S: AsStr,
+    R: Source,
+    W: Pipe,
+    F: Sink,
+    J: Journals + Drop,
+>(
+    rt: &H,
+    words: &[S],
+    is_terminal: bool,
+    journals: J,
+    reader: &mut R,
+    writer: &mut W,
+    faults: &mut F,
+) -> u8
+    requires reads { R.failed reader.old < 2 ^ 64 - 1 }
+    requires writes { W.failed writer.old < 2 ^ 64 - 1 }
+    requires tells { F.failed faults.old < 2 ^ 64 - 1 }
+    ensures streams { output_asked (map S.text words.now) ≡ None → ((result ≡ 4) × (reader.new ≡ reader.old) × (writer.new ≡ writer.old)) ⊎ AnswersWords (map S.text words.now) (W.closed writer.new) result
+        (seen_streams (R.remaining reader.old) (R.failed reader.old) (W.contents writer.old) (W.failed writer.old))
+        (seen_streams (R.remaining reader.new) (R.failed reader.new) (W.contents writer.new) (W.failed writer.new))
+        (Tells (F.contents faults.old) (F.contents faults.new) (F.failed faults.old) (F.failed faults.new))
+        (λ desk. HoldsWith J.File.seen J.File.may_leave J.File.is_usable J.File.is_clean J.File.is_mixing desk.journal desk (is_terminal && not desk.quiet) (W.closed writer.new) result
+        (streams_of (R.remaining reader.old) (R.failed reader.old) (W.contents writer.old) (W.failed writer.old) (F.contents faults.old) (F.failed faults.old) false)
+        (streams_of (R.remaining reader.new) (R.failed reader.new) (W.contents writer.new) (W.failed writer.new) (F.contents faults.new) (F.failed faults.new) false)) }
+    ensures unwritten { IsSome (output_asked (map S.text words.now)) → writer.new ≡ writer.old }
+    ensures unread { reads_input (map S.text words.now) ≡ false → reader.new ≡ reader.old }
+{
+    match read_output(rt.alloc(), words) {
+        Ok(None) => main_words(rt, words, is_terminal, journals, reader, writer, faults),
+        Ok(Some(output)) => {
+            let mut file = OutputFile::new(rt, output.path.as_str());
+            let status = {
+                let mut kept = KeptWriter::new(&mut file);
+                main_words(rt, words, is_terminal, journals, reader, &mut kept, faults)
+            };
+            file.finish(status, output.is_test, faults)
+        }
+        Err(AllocError) => tell_no_memory(faults),
+    }
+}
+
 /// Does a task with the script of a file, or of the reader where none is named, and has its notes, where they are asked for.
 fn do_asked<H: AllocGlobal + Files + Threads + Wait + Sync, R: Source, W: Sink>(
     rt: &H,
     task: Task,
     file: &Option<String>,
-    notes: bool,
+    telling: Telling,
     reader: &mut R,
     writer: &mut W,
 ) -> Noted
     requires sound { IsSound task }
     requires reads { R.failed reader.old < 2 ^ 64 - 1 }
     requires writes { W.failed writer.old < 2 ^ 64 - 1 }
-    ensures done { IsDone task (name_of file.now) notes result
+    ensures done { IsDone task (name_of file.now) telling result
         (seen_streams (R.remaining reader.old) (R.failed reader.old) (W.contents writer.old) (W.failed writer.old))
         (seen_streams (R.remaining reader.new) (R.failed reader.new) (W.contents writer.new) (W.failed writer.new)) }
     ensures unread { IsSome file.now → reader.new ≡ reader.old }
     ensures quiet { IsOfScript task → IfOk result.outcome IsQuietIfDone }
-    ensures unasked { notes ≡ false → notes_in result.notes ≡ [] }
+    ensures unasked { telling.notes ≡ false → IfOk result.outcome (λ _. notes_in result.notes ≡ []) }
 {
     match read_source(rt, file, reader) {
-        Ok(script) => do_script(rt, task, told_name(file), notes, &script, writer),
+        Ok(script) => do_script(rt, task, told_name(file), telling, &script, writer),
         Err(fault) => Noted {
             outcome: Err(fault),
-            notes: unread_note(rt, notes, file, fault),
+            notes: unread_note(rt, telling.whole, file, fault),
         },
     }
 }
@@ -186,11 +239,18 @@ pub fn tell_unread<F: Write>(fault: &io::Error, faults: &mut F) -> u8
     ensures no_text { error_kind fault.now ≢ ErrorKind.OutOfMemory → result ≡ 2 }
 {
     if fault.kind() == ErrorKind::OutOfMemory {
-        tell(&Fault::NoMemory, faults);
-        return Status::NoMemory.number();
+        return tell_no_memory(faults);
     }
     tell(&NO_TEXT, faults);
     Status::BadWords.number()
+}
+
+/// Tells that memory was refused for what the program's words ask for, and answers the status to exit with.
+pub fn tell_no_memory<F: Write>(faults: &mut F) -> u8
+    ensures { result ≡ 4 }
+{
+    tell(&Fault::NoMemory, faults);
+    Status::NoMemory.number()
 }
 
 /// Writes a text that was asked for, and answers the status.

@@ -3,14 +3,13 @@ ghost use Rattle.pf_vocabulary.specs.Fault.Faults.{CountsWrites, IsUnwritten};
 ghost use Rattle.pf_stream.specs.Reading.{longest_script};
 ghost use Rattle.pf_convert.specs.Words.Reading.{IsConversion};
 ghost use Rattle.pf_cli.specs.Ends.{LeavesDesk, outcome_of};
-ghost use Rattle.pf_cli.specs.Tasks.{AnswersTask, IsOfScript, IsQuietIfDone, ListConverted, RunsScript};
+ghost use Rattle.pf_cli.specs.Tasks.{AnswersTask, CheckMade, IsCarriedOut, IsQuietIfDone, ListConverted, RunsScript};
 
 use crate::answering::write_answer;
 use crate::open_gate::OpenGate;
 use crate::task_end::TaskEnd;
 use pf_arguments::task::Task;
 use pf_change::diff::diff;
-use pf_check_run::check_run::check_run;
 use pf_commands::check::check;
 use pf_commands::run::run;
 use pf_commands::task_run::run_tasks;
@@ -30,13 +29,14 @@ use std::alloc::Global;
 use std::sync::Wait;
 use std::thread::Threads;
 
-/// Does a task with a script of these bytes, which has these titles, in the file of this name, and writes what it answers. Where the
+/// Does a task that carries a script out, of these bytes, which has these titles, in the file of this name, and writes what it answers. Where the
 /// script belongs to a plan, `origins` are the records there that its own come from. Threads are started for a drill alone,
 /// and the call waits for them. Where it was not done, its fault is the outcome: `Write` where the writer fails or takes nothing. The
 /// writer's count of failures must be below `u64::MAX` before the call.
 pub(crate) fn do_task<H: AllocGlobal + Threads + Wait + Sync, W: Sink>(
     rt: &H,
     task: Task,
+    hints: bool,
     file: &[u8],
     script: &[u8],
     titles: &Titles,
@@ -44,9 +44,9 @@ pub(crate) fn do_task<H: AllocGlobal + Threads + Wait + Sync, W: Sink>(
     writer: &mut W,
 ) -> TaskEnd
     requires short { length script.now ≤ longest_script }
-    requires script { IsOfScript task }
+    requires carried { IsCarriedOut task }
     requires writes { W.failed writer.old < 2 ^ 64 - 1 }
-    ensures answers { AnswersTask titles.now (option_map (λ o. o.now) origins.entry) task file.now script.now (outcome_of result) (W.contents writer.old) (W.contents writer.new) }
+    ensures answers { AnswersTask titles.now (option_map (λ o. o.now) origins.entry) hints task file.now script.now (outcome_of result) (W.contents writer.old) (W.contents writer.new) }
     ensures desk { LeavesDesk script.now result }
     ensures quiet { IfOk (outcome_of result) IsQuietIfDone }
     ensures writes { CountsWrites (outcome_of result) (W.failed writer.old) (W.failed writer.new) }
@@ -59,13 +59,11 @@ pub(crate) fn do_task<H: AllocGlobal + Threads + Wait + Sync, W: Sink>(
         Task::RunTasks(format, words, fail_on) => TaskEnd::Other(run_tasks(
             alloc, script, writer, format, titles, &words, fail_on,
         )),
-        Task::Check => TaskEnd::Other(check(alloc, script, writer)),
-        Task::CheckRun => TaskEnd::Other(write_answer(check_run(alloc, file, script), writer)),
         Task::Diff(since, options) => {
             TaskEnd::Other(write_answer(diff(alloc, script, since, options), writer))
         }
         Task::Drill => TaskEnd::Other(write_answer(drill(rt, alloc, script, &OpenGate), writer)),
-        Task::Convert(_) => unreachable!(),
+        Task::Check | Task::CheckRun | Task::Convert(_) => unreachable!(),
         Task::Fit(format) => TaskEnd::Other(write_answer(
             fit(alloc, format, file, script, origins, titles),
             writer,
@@ -100,13 +98,36 @@ fn run_script<W: Sink>(
     }
 }
 
-/// The answer to a list of tasks that is converted.
-pub(crate) fn convert_list(alloc: Global, list: &[u8], asked: &Conversion) -> Result<Answer, Fault>
-    requires { IsConversion asked.now }
-    ensures made { ListConverted asked.now list.now result }
+/// The answer to a check of a script of any version; with hints, where they are asked for.
+pub(crate) fn check_script(
+    alloc: Global,
+    file: &[u8],
+    script: &[u8],
+    hints: bool,
+) -> Result<Answer, Fault>
+    requires short { length script.now ≤ longest_script }
+    ensures made { CheckMade file.now hints script.now result }
+    ensures quiet { IfOk result (λ answer. answer.ending.notes.items ≡ []) }
     ensures unwritten { IfErr result IsUnwritten }
 {
-    match convert(alloc, list, asked) {
+    match check(alloc, file, script, hints) {
+        Ok(answer) => Ok(answer),
+        Err(_) => Err(Fault::NoMemory),
+    }
+}
+
+/// The answer to a list of tasks, in a file of this name, that is converted.
+pub(crate) fn convert_list(
+    alloc: Global,
+    file: &[u8],
+    list: &[u8],
+    asked: &Conversion,
+) -> Result<Answer, Fault>
+    requires { IsConversion asked.now }
+    ensures made { ListConverted asked.now file.now list.now result }
+    ensures unwritten { IfErr result IsUnwritten }
+{
+    match convert(alloc, file, list, asked) {
         Ok(answer) => Ok(answer),
         Err(_) => Err(Fault::NoMemory),
     }

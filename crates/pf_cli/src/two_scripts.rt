@@ -14,6 +14,7 @@ use crate::pair_notes::{join_notes, sizes_note};
 use crate::script_source::{read_source, told_name};
 use crate::versions::numbered_fault;
 use pf_arguments::script_pair::ScriptPair;
+use pf_arguments::telling::Telling;
 use pf_change::compare::compare;
 use pf_desk::snapshot::Snapshot;
 use pf_plain_script::plain::{PlainScript, plain_script};
@@ -36,20 +37,20 @@ use std::rt::Files;
 pub(crate) fn compare_scripts<H: AllocGlobal + Files, R: Source, W: Sink>(
     rt: &H,
     pair: &ScriptPair,
-    asked: bool,
+    telling: Telling,
     reader: &mut R,
     writer: &mut W,
 ) -> Noted
     requires reads { R.failed reader.old < 2 ^ 64 - 1 }
     requires writes { W.failed writer.old < 2 ^ 64 - 1 }
-    ensures done { ComparesScripts (names_of pair.now) asked result
+    ensures done { ComparesScripts (names_of pair.now) telling result
         (seen_streams (R.remaining reader.old) (R.failed reader.old) (W.contents writer.old) (W.failed writer.old))
         (seen_streams (R.remaining reader.new) (R.failed reader.new) (W.contents writer.new) (W.failed writer.new)) }
     ensures unread { IsSome pair.now.first → IsSome pair.now.second → reader.new ≡ reader.old }
 {
-    let ShownScript { outcome, notes } = show_source(rt, &pair.first, asked, reader);
+    let ShownScript { outcome, notes } = show_source(rt, &pair.first, telling, reader);
     match outcome {
-        Ok(before) => compare_behind(rt, &before, notes, pair, asked, reader, writer),
+        Ok(before) => compare_behind(rt, &before, notes, pair, telling, reader, writer),
         Err(fault) => Noted {
             outcome: Err(fault),
             notes,
@@ -63,19 +64,19 @@ fn compare_behind<H: AllocGlobal + Files, R: Source, W: Sink>(
     before: &Snapshot,
     notes: Result<Vec<u8>, Fault>,
     pair: &ScriptPair,
-    asked: bool,
+    telling: Telling,
     reader: &mut R,
     writer: &mut W,
 ) -> Noted
     requires reads { R.failed reader.old < 2 ^ 64 - 1 }
     requires writes { W.failed writer.old < 2 ^ 64 - 1 }
-    ensures done { ComparesBehind (names_of pair.now) asked (Ok before.now) notes result
+    ensures done { ComparesBehind (names_of pair.now) telling (Ok before.now) notes result
         (seen_streams (R.remaining reader.old) (R.failed reader.old) (W.contents writer.old) (W.failed writer.old))
         (seen_streams (R.remaining reader.new) (R.failed reader.new) (W.contents writer.new) (W.failed writer.new)) }
     ensures writes { CountsWrites result.outcome (W.failed writer.old) (W.failed writer.new) }
     ensures unread { IsSome pair.now.second → reader.new ≡ reader.old }
 {
-    let second = show_source(rt, &pair.second, asked, reader);
+    let second = show_source(rt, &pair.second, telling, reader);
     let ShownScript {
         outcome,
         notes: second_notes,
@@ -86,7 +87,7 @@ fn compare_behind<H: AllocGlobal + Files, R: Source, W: Sink>(
             let outcome = write_answer(made, writer);
             let notes = pair_notes(
                 rt.alloc(),
-                asked,
+                telling.notes,
                 pair,
                 before,
                 &after,
@@ -148,11 +149,11 @@ fn compare_seen(
 fn show_source<H: AllocGlobal + Files, R: Source>(
     rt: &H,
     file: &Option<String>,
-    asked: bool,
+    telling: Telling,
     reader: &mut R,
 ) -> ShownScript
     requires { R.failed reader.old < 2 ^ 64 - 1 }
-    ensures shows { Shows (name_of file.now) asked result.outcome result.notes (R.remaining reader.old) (R.failed reader.old) (R.remaining reader.new) (R.failed reader.new) }
+    ensures shows { Shows (name_of file.now) telling result.outcome result.notes (R.remaining reader.old) (R.failed reader.old) (R.remaining reader.new) (R.failed reader.new) }
     ensures reads { OnOk result.outcome (R.failed reader.new ≡ R.failed reader.old) }
     ensures kept { IsSome file.now → reader.new ≡ reader.old }
     ensures unwritten { IfErr result.outcome IsUnwritten }
@@ -160,13 +161,13 @@ fn show_source<H: AllocGlobal + Files, R: Source>(
     match read_source(rt, file, reader) {
         Ok(script) => {
             let outcome = show_script(rt.alloc(), &script);
-            let noting = Noting::of_two(asked);
+            let noting = Noting::of_two(telling);
             let notes = notes_behind(rt.alloc(), noting, told_name(file), &script, &outcome);
             ShownScript { outcome, notes }
         }
         Err(fault) => ShownScript {
             outcome: Err(fault),
-            notes: unread_note(rt, asked, file, fault),
+            notes: unread_note(rt, telling.whole, file, fault),
         },
     }
 }

@@ -1,28 +1,26 @@
 ghost use Rattle.std.specs.Prelude.{◌≡◌, ◌-◌, ◌^◌, ◌<◌, ◌≤◌, ℕ, List, [], length, IfOk, IfErr};
 ghost use Rattle.pf_vocabulary.specs.Fault.Faults.{CountsWrites, IsUnwritten};
 ghost use Rattle.pf_stream.specs.Reading.{longest_script};
-ghost use Rattle.pf_check_run.specs.Answers.{Belongs};
 ghost use Rattle.pf_plain_script.specs.Plain.{IsPlain, Plain};
 ghost use Rattle.pf_arguments.specs.Asked.{IsSound};
 ghost use Rattle.pf_cli.specs.Ends.{LeavesDesk, outcome_of};
 ghost use Rattle.pf_cli.specs.Noted.{AreNotesOf, noting_behind, noting_of};
-ghost use Rattle.pf_cli.specs.Tasks.{IsOfScript, IsQuietIfDone};
-ghost use Rattle.pf_cli.specs.Versions.{AnswersBytes, AnswersRecords, AnswersShort, AnswersPlan, IsChecked, count_below, number_from, numbered, numbered_fault, since_in, task_in};
+ghost use Rattle.pf_cli.specs.Tasks.{IsCarriedOut, IsOfScript, IsQuietIfDone};
+ghost use Rattle.pf_cli.specs.Versions.{AnswersBytes, AnswersRecords, AnswersShort, count_below, number_from, numbered, numbered_fault, since_in, task_in};
 
 use crate::answering::write_answer;
 use crate::noted::Noted;
 use crate::notes::{end_with_notes, with_notes};
 use crate::noting::Noting;
 use crate::task_end::TaskEnd;
-use crate::tasks::{convert_list, do_task};
+use crate::tasks::{check_script, convert_list, do_task};
 use pf_arguments::task::Task;
-use pf_check_run::check_run::plan_check_run;
+use pf_arguments::telling::Telling;
+use pf_check_run::check_run::check_run;
 use pf_plain_script::origin::Origin;
 use pf_plain_script::plain::{PlainScript, plain_script};
-use pf_script::plan_check::check::plan_check;
 use pf_stream::reading::LONGEST_SCRIPT;
 use pf_stream::sink::Sink;
-use pf_vocabulary::fault::answer::Answer;
 use pf_vocabulary::fault::fault::Fault;
 use pf_vocabulary::names::titles::Titles;
 use std::alloc::Global;
@@ -36,28 +34,30 @@ pub(crate) fn do_script<H: AllocGlobal + Threads + Wait + Sync, W: Sink>(
     rt: &H,
     task: Task,
     file: &[u8],
-    asked: bool,
+    telling: Telling,
     script: &[u8],
     writer: &mut W,
 ) -> Noted
     requires short { length script.now ≤ longest_script }
     requires sound { IsSound task }
     requires writes { W.failed writer.old < 2 ^ 64 - 1 }
-    ensures answers { AnswersBytes task file.now script.now result.outcome (W.contents writer.old) (W.contents writer.new) }
-    ensures notes { AreNotesOf (noting_behind (noting_of asked task) result.outcome) file.now script.now result.outcome result.notes }
+    ensures answers { AnswersBytes telling.notes task file.now script.now result.outcome (W.contents writer.old) (W.contents writer.new) }
+    ensures notes { AreNotesOf (noting_behind (noting_of telling task) result.outcome) file.now script.now result.outcome result.notes }
     ensures quiet { IsOfScript task → IfOk result.outcome IsQuietIfDone }
     ensures writes { CountsWrites result.outcome (W.failed writer.old) (W.failed writer.new) }
 {
-    let noting = Noting::of(asked, &task);
-    if let Task::Convert(conversion) = &task {
-        let made = convert_list(rt.alloc(), script, conversion);
-        let outcome = write_answer(made, writer);
-        return with_notes(rt.alloc(), noting, file, script, outcome);
-    }
-    do_version(rt, task, noting, file, script, writer)
+    let noting = Noting::of(telling, &task);
+    let made = match &task {
+        Task::Check => check_script(rt.alloc(), file, script, noting.hints),
+        Task::CheckRun => check_run(rt.alloc(), file, script, noting.hints),
+        Task::Convert(conversion) => convert_list(rt.alloc(), file, script, conversion),
+        _ => return do_version(rt, task, noting, file, script, writer),
+    };
+    let outcome = write_answer(made, writer);
+    with_notes(rt.alloc(), noting, file, script, outcome)
 }
 
-/// The same with a script alone.
+/// The same with a script that is carried out.
 #[tactic(auto, using(crate::proofs::RunNotes::plan_text, crate::proofs::RunNotes::own_text))]
 fn do_version<H: AllocGlobal + Threads + Wait + Sync, W: Sink>(
     rt: &H,
@@ -68,9 +68,9 @@ fn do_version<H: AllocGlobal + Threads + Wait + Sync, W: Sink>(
     writer: &mut W,
 ) -> Noted
     requires short { length script.now ≤ longest_script }
-    requires script { IsOfScript task }
+    requires carried { IsCarriedOut task }
     requires writes { W.failed writer.old < 2 ^ 64 - 1 }
-    ensures answers { AnswersBytes task file.now script.now result.outcome (W.contents writer.old) (W.contents writer.new) }
+    ensures answers { AnswersBytes noting.hints task file.now script.now result.outcome (W.contents writer.old) (W.contents writer.new) }
     ensures notes { AreNotesOf (noting_behind noting result.outcome) file.now script.now result.outcome result.notes }
     ensures quiet { IfOk result.outcome IsQuietIfDone }
     ensures writes { CountsWrites result.outcome (W.failed writer.old) (W.failed writer.new) }
@@ -78,7 +78,7 @@ fn do_version<H: AllocGlobal + Threads + Wait + Sync, W: Sink>(
     let alloc = rt.alloc();
     match plain_script(alloc, script) {
         Ok(Some(plain)) => {
-            let end = do_plan(rt, task, file, script, &plain, writer);
+            let end = do_plain(rt, task, noting.hints, file, &plain, writer);
             let origins = plain.origins.as_slice();
             let names = &plain.titles.names;
             end_with_notes(
@@ -94,7 +94,7 @@ fn do_version<H: AllocGlobal + Threads + Wait + Sync, W: Sink>(
         }
         Ok(None) => {
             let titles = Titles::none(alloc);
-            let end = do_task(rt, task, file, script, &titles, None, writer);
+            let end = do_task(rt, task, noting.hints, file, script, &titles, None, writer);
             end_with_notes(
                 alloc,
                 noting,
@@ -110,45 +110,18 @@ fn do_version<H: AllocGlobal + Threads + Wait + Sync, W: Sink>(
     }
 }
 
-/// Does a task with a plan, to which this one belongs.
-fn do_plan<H: AllocGlobal + Threads + Wait + Sync, W: Sink>(
-    rt: &H,
-    task: Task,
-    file: &[u8],
-    script: &[u8],
-    plain: &PlainScript,
-    writer: &mut W,
-) -> TaskEnd
-    requires short { length script.now ≤ longest_script }
-    requires script { IsOfScript task }
-    requires writes { W.failed writer.old < 2 ^ 64 - 1 }
-    ensures answers { (p : Plain) → Belongs script.now plain.now p →
-        AnswersPlan p task file.now script.now (outcome_of result) (W.contents writer.old) (W.contents writer.new) }
-    ensures desk { LeavesDesk plain.now.text.items result }
-    ensures quiet { IfOk (outcome_of result) IsQuietIfDone }
-    ensures writes { CountsWrites (outcome_of result) (W.failed writer.old) (W.failed writer.new) }
-{
-    match task {
-        Task::Check => TaskEnd::Other(write_answer(check_script(rt.alloc(), script), writer)),
-        Task::CheckRun => TaskEnd::Other(write_answer(
-            plan_check_run(rt.alloc(), file, script, plain),
-            writer,
-        )),
-        _ => do_plain(rt, task, file, plain, writer),
-    }
-}
-
 /// Does a task with this script of version 2, and tells records by their numbers in that of a plan.
 fn do_plain<H: AllocGlobal + Threads + Wait + Sync, W: Sink>(
     rt: &H,
     task: Task,
+    hints: bool,
     file: &[u8],
     plain: &PlainScript,
     writer: &mut W,
 ) -> TaskEnd
-    requires script { IsOfScript task }
+    requires carried { IsCarriedOut task }
     requires writes { W.failed writer.old < 2 ^ 64 - 1 }
-    ensures answers { (p : Plain) → IsPlain plain.now p → AnswersShort p task file.now (outcome_of result) (W.contents writer.old) (W.contents writer.new) }
+    ensures answers { (p : Plain) → IsPlain plain.now p → AnswersShort p hints task file.now (outcome_of result) (W.contents writer.old) (W.contents writer.new) }
     ensures desk { LeavesDesk plain.now.text.items result }
     ensures quiet { IfOk (outcome_of result) IsQuietIfDone }
     ensures writes { CountsWrites (outcome_of result) (W.failed writer.old) (W.failed writer.new) }
@@ -156,7 +129,7 @@ fn do_plain<H: AllocGlobal + Threads + Wait + Sync, W: Sink>(
     if plain.text.len() > LONGEST_SCRIPT {
         return TaskEnd::Other(Err(Fault::TooLong));
     }
-    let end = do_records(rt, task, file, plain, writer);
+    let end = do_records(rt, task, hints, file, plain, writer);
     numbered(&plain.origins, end)
 }
 
@@ -164,14 +137,15 @@ fn do_plain<H: AllocGlobal + Threads + Wait + Sync, W: Sink>(
 fn do_records<H: AllocGlobal + Threads + Wait + Sync, W: Sink>(
     rt: &H,
     task: Task,
+    hints: bool,
     file: &[u8],
     plain: &PlainScript,
     writer: &mut W,
 ) -> TaskEnd
     requires short { length plain.now.text.items ≤ longest_script }
-    requires script { IsOfScript task }
+    requires carried { IsCarriedOut task }
     requires writes { W.failed writer.old < 2 ^ 64 - 1 }
-    ensures answers { (p : Plain) → IsPlain plain.now p → AnswersRecords p task file.now (outcome_of result) (W.contents writer.old) (W.contents writer.new) }
+    ensures answers { (p : Plain) → IsPlain plain.now p → AnswersRecords p hints task file.now (outcome_of result) (W.contents writer.old) (W.contents writer.new) }
     ensures desk { LeavesDesk plain.now.text.items result }
     ensures quiet { IfOk (outcome_of result) IsQuietIfDone }
     ensures writes { CountsWrites (outcome_of result) (W.failed writer.old) (W.failed writer.new) }
@@ -181,6 +155,7 @@ fn do_records<H: AllocGlobal + Threads + Wait + Sync, W: Sink>(
     do_task(
         rt,
         told,
+        hints,
         file,
         &plain.text,
         &plain.titles,
@@ -189,23 +164,11 @@ fn do_records<H: AllocGlobal + Threads + Wait + Sync, W: Sink>(
     )
 }
 
-/// The answer to a check of a plan.
-fn check_script(alloc: Global, script: &[u8]) -> Result<Answer, Fault>
-    ensures made { IsChecked script.now result }
-    ensures quiet { IfOk result (λ answer. answer.ending.notes.items ≡ []) }
-    ensures unwritten { IfErr result IsUnwritten }
-{
-    match plan_check(alloc, script) {
-        Ok(answer) => Ok(answer),
-        Err(_) => Err(Fault::NoMemory),
-    }
-}
-
 /// The task with the script of version 2: what its records from one on changed, where the one is told by its number in the
 /// plan.
 fn task_in(task: Task, plain: &PlainScript) -> Task
-    requires { IsOfScript task }
-    ensures script { IsOfScript result }
+    requires { IsCarriedOut task }
+    ensures carried { IsCarriedOut result }
     ensures value { (p : Plain) → IsPlain plain.now p → result ≡ task_in p task }
 {
     match task {

@@ -1,5 +1,4 @@
 pub mod Answering
-pub mod Checking
 pub mod Ends
 pub mod Listed
 pub mod Outside

@@ -1,27 +1,28 @@
 -- What a check of a script comes to.
-use Rattle.std.specs.Prelude.{ℕ, ◌≡◌, nat_lt, ◌==◌, if◌then◌else◌, List, [], length, Option, Result, IfOk}
-use Rattle.pf_stream.specs.Reading.{longest_script}
-use Rattle.pf_script.specs.Told.{faults}
-use Rattle.pf_script.specs.Check.Reports.{check_text}
-use Rattle.pf_vocabulary.specs.declared.fault.ending.Ending.{Ending}
-use Rattle.pf_vocabulary.specs.declared.fault.fault.Fault.{Fault}
+use Rattle.std.specs.Prelude.{ℕ, ◌≡◌, ◌==◌, Bool, if◌then◌else◌, List, ◌++◌, codes}
+use Rattle.std.specs.Fmt.{decimal}
+use Rattle.pf_script.specs.Check.Faults.{faults_count, faults_text}
+use Rattle.pf_script.specs.Check.Files.{record_count, script_messages}
+use Rattle.pf_vocabulary.specs.declared.fault.answer.Answer.{Answer}
 use Rattle.pf_vocabulary.specs.declared.fault.status.Status.{Status}
 use Rattle.pf_vocabulary.specs.declared.fault.status.Status.TheVariants.{Done, BadScript}
 use Rattle.pf_vocabulary.specs.Fault.Answers.{IsQuiet}
-use Rattle.pf_commands.specs.Answers.{Answers}
-use Rattle.pf_commands.specs.Meaning.{Meaning, Done as MeansDone, TooLong}
 
--- the text of a check, whatever it finds; a script that is too long is not checked
-unfoldable pub check_meaning : List ℕ → Meaning
-check_meaning bytes =
-    if nat_lt longest_script (length bytes) then record { text = []; end = TooLong }
-    else record { text = check_text bytes; end = MeansDone }
+-- how many records and how many messages there are
+unfoldable pub count_text : ℕ → ℕ → List ℕ
+count_text records faults = decimal records ++ codes " records, " ++ decimal faults ++ codes " faults\n"
 
--- the status of a check, by how many faults it found
+-- the status of a check, by how many messages it has
 abbrev pub check_status : ℕ → Status
 check_status faults = if faults == 0 then Done else BadScript
 
--- the answer to a check of these bytes, whose status tells whether there are faults, and what the writer took of its text
-pub record ChecksBytes (bytes : List ℕ) (answer : Result Ending Fault) (old new : Option (List ℕ)) : Type 0 where
-  pub text : Answers (check_meaning bytes) answer old new
-  pub status : IfOk answer (IsQuiet (check_status (length (faults bytes))))
+-- the text of a check of the script of this file
+abbrev pub check_text : List ℕ → Bool → List ℕ → List ℕ
+check_text file hints script =
+    faults_text (record_count script) (script_messages file hints script)
+    ++ count_text (record_count script) (faults_count (record_count script) (script_messages file hints script))
+
+-- the answer to it, whose status tells whether there is a message
+pub record ChecksScript (file : List ℕ) (hints : Bool) (script : List ℕ) (answer : Answer) : Type 0 where
+  pub text : answer.text.items ≡ check_text file hints script
+  pub ending : IsQuiet (check_status (faults_count (record_count script) (script_messages file hints script))) answer.ending

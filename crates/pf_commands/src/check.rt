@@ -1,35 +1,45 @@
-ghost use Rattle.std.specs.Prelude.{◌≡◌, ◌-◌, ◌^◌, ◌<◌, ◌≤◌, length};
-ghost use Rattle.pf_vocabulary.specs.Fault.Faults.{CountsWrites, IsPastReading};
+ghost use Rattle.std.specs.Prelude.{◌≡◌, ◌++◌, ◌≤◌, length, IfOk, OnOk};
 ghost use Rattle.pf_stream.specs.Reading.{longest_script};
-ghost use Rattle.pf_commands.specs.Checks.{ChecksBytes, check_status};
+ghost use Rattle.pf_commands.specs.Checks.{ChecksScript, check_status, count_text};
 
-use pf_script::check::checker::write_check;
-use pf_stream::output_fault::OutputFault;
-use pf_stream::sink::Sink;
+use pf_script::check::script_faults::find_faults;
+use pf_text::numbers::push_number;
+use pf_vocabulary::fault::answer::Answer;
 use pf_vocabulary::fault::ending::Ending;
-use pf_vocabulary::fault::fault::Fault;
 use pf_vocabulary::fault::status::Status;
-use std::alloc::Global;
+use std::alloc::{AllocError, Global};
 
-/// Carries nothing out of a script of these bytes, and writes a line for each record that the format does not allow, and then
-/// how many records and faults there are. The status is `BadScript` where there is a fault, else `Done`. The writer's count of
-/// failures must be below `u64::MAX` before the call.
+/// Carries nothing out of a script of any version of this file, and answers the messages of the records that the format does not allow,
+/// with hints, where they are asked for; and then how many records and messages there are. The status is `BadScript` where there is a
+/// message, else `Done`.
 ///
 /// # Errors
 ///
-/// `Write` where the writer fails or takes nothing, and `NoMemory` where memory is refused: a front of the text was written.
-pub fn check<W: Sink>(alloc: Global, script: &[u8], writer: &mut W) -> Result<Ending, Fault>
-    requires short { length script.now ≤ longest_script }
-    requires writes { W.failed writer.old < 2 ^ 64 - 1 }
-    ensures meaning { ChecksBytes script.now result (W.contents writer.old) (W.contents writer.new) }
-    ensures read { IsPastReading result }
-    ensures writes { CountsWrites result (W.failed writer.old) (W.failed writer.new) }
+/// Where memory is refused.
+pub fn check(alloc: Global, file: &[u8], script: &[u8], hints: bool) -> Result<Answer, AllocError>
+    requires { length script.now ≤ longest_script }
+    ensures { IfOk result (ChecksScript file.now hints script.now) }
 {
-    match write_check(alloc, script, writer) {
-        Ok(faults) => Ok(Ending::quiet(alloc, status_of(faults))),
-        Err(OutputFault::Write) => Err(Fault::Write),
-        Err(OutputFault::Memory) => Err(Fault::NoMemory),
-    }
+    let found = find_faults(alloc, file, script, hints)?;
+    let records = found.records;
+    let count = found.lines.count();
+    let mut text = found.lines.into_text()?;
+    push_counts(&mut text, records, count)?;
+    Ok(Answer {
+        text,
+        ending: Ending::quiet(alloc, status_of(count)),
+    })
+}
+
+/// Appends the last line.
+#[tactic(auto, unfolding(crate::specs::Checks::count_text))]
+fn push_counts(text: &mut Vec<u8>, records: u64, faults: u64) -> Result<(), AllocError>
+    ensures { OnOk result (text.new.items ≡ text.old.items ++ count_text records faults) }
+{
+    push_number(text, records)?;
+    text.extend_from_slice(b" records, ")?;
+    push_number(text, faults)?;
+    text.extend_from_slice(b" faults\n")
 }
 
 /// The status of a check that found this many faults.

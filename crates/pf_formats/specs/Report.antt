@@ -14,6 +14,7 @@ use Rattle.pf_jobs.specs.Jobs.{jobs_text}
 use Rattle.pf_jobs.specs.Load.{load_text}
 use Rattle.pf_windows.specs.Windows.{windows_text}
 use Rattle.pf_code.specs.Array.{c_text}
+use Rattle.pf_code.specs.Symbol.{usual_symbol}
 use Rattle.pf_trace.specs.Trace.{trace_text}
 use Rattle.pf_full.specs.Full.{full_text}
 use Rattle.pf_full.specs.declared.refusal.Refusal.{Refusal}
@@ -24,7 +25,7 @@ use Rattle.pf_chart.specs.Chart.{chart_text_of}
 use Rattle.pf_picture.specs.Picture.{picture_text_of}
 use Rattle.pf_vocabulary.specs.declared.options.format.Format.{Format}
 use Rattle.pf_vocabulary.specs.declared.options.format.Format.TheVariants.{Schedule, Tables, Json, Report, Replies, Lags, Misses, Denials, Events, Script, Processors, Stats, Chart, Svg, Quanta, Windows, Jobs, Load, Trace, C, Full, Html}
-use Rattle.pf_vocabulary.specs.Options.Ranges.{end_of, first_of}
+use Rattle.pf_vocabulary.specs.Options.Ranges.{end_of, first_of, whole}
 
 -- a table after a line with its name
 abbrev pub text_under_title : List ℕ → List ℕ → List ℕ
@@ -59,6 +60,6 @@ report_text (Windows range) every seen titles refusals = windows_text seen all_t
 report_text Jobs every seen titles refusals = jobs_text seen all_tasks titles
 report_text (Load range) every seen titles refusals = load_text seen (first_of range) (end_of range seen.state.now)
 report_text Trace every seen titles refusals = trace_text titles seen
-report_text C every seen titles refusals = c_text seen titles
+report_text C every seen titles refusals = c_text seen titles whole usual_symbol
 report_text Full every seen titles refusals = full_text every titles refusals seen ++ line_end
 report_text Html every seen titles refusals = page_text (full_text every titles refusals seen)

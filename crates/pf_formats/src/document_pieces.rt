@@ -14,7 +14,7 @@ pub enum DocumentPieces<'a> {
     Full(PagePieces<FullPieces<'a>>),
     /// The trace events.
     Trace(TracePieces<'a>),
-    /// The schedule as a C array.
+    /// The schedule as a C header.
     Code(ArrayPieces<'a>),
 }
 

@@ -1,16 +1,19 @@
 ghost use Rattle.std.specs.Prelude.{◌≡◌, ◌++◌, IfOk};
 ghost use Rattle.pf_code.specs.Array.{c_text};
+ghost use Rattle.pf_code.specs.Symbol.{usual_symbol};
 ghost use Rattle.pf_full.specs.Full.{full_text};
 ghost use Rattle.pf_page.specs.Page.{page_text};
 ghost use Rattle.pf_report.specs.Json.{json_text};
 ghost use Rattle.pf_report.specs.Replies.{line_end};
 ghost use Rattle.pf_report.specs.Script.{script_text_of};
 ghost use Rattle.pf_trace.specs.Trace.{trace_text};
+ghost use Rattle.pf_vocabulary.specs.Options.Ranges.{whole};
 ghost use Rattle.pf_formats.specs.Left.{text_left};
 
 use crate::document_pieces::DocumentPieces;
 use crate::report_pieces::ReportPieces;
 use pf_code::array::c_pieces;
+use pf_code::symbol::Symbol;
 use pf_desk::snapshot::Snapshot;
 use pf_full::full::full_pieces;
 use pf_full::refusal::Refusal;
@@ -20,6 +23,7 @@ use pf_report::script::script_text;
 use pf_text::pieces::{Chain, Whole};
 use pf_trace::trace::trace_pieces;
 use pf_vocabulary::names::titles::Titles;
+use pf_vocabulary::options::slot_range::SlotRange;
 use std::alloc::{AllocError, Global};
 
 /// The JSON object, as a line.
@@ -60,15 +64,16 @@ pub(crate) fn trace_of<'a>(
     Ok(ReportPieces::Document(DocumentPieces::Trace(trace)))
 }
 
-/// The schedule as a C array.
+/// The schedule as a C header, of all slots.
 pub(crate) fn code_of<'a>(
     alloc: Global,
     snapshot: &'a Snapshot,
     titles: &'a Titles,
 ) -> Result<ReportPieces<'a>, AllocError>
-    ensures { IfOk result (λ pieces. text_left pieces ≡ c_text snapshot.now titles.now) }
+    ensures { IfOk result (λ pieces. text_left pieces ≡ c_text snapshot.now titles.now whole usual_symbol) }
 {
-    let code = c_pieces(alloc, snapshot, titles)?;
+    let symbol = Symbol::usual();
+    let code = c_pieces(alloc, snapshot, titles, SlotRange::whole(), &symbol)?;
     Ok(ReportPieces::Document(DocumentPieces::Code(code)))
 }
 

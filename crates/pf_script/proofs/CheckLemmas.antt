@@ -1,4 +1,7 @@
+pub mod Finding
 pub mod FirstFaults
+pub mod Kinds
+pub mod Plainly
+pub mod Plans
 pub mod ReadRecords
-pub mod Steps
-pub mod Written
+pub mod Shown

@@ -13,7 +13,7 @@ use Rattle.pf_script.specs.declared.stage.Stage.TheVariants.{Beginning}
 use Rattle.pf_script.specs.Parsing.{record_at}
 use Rattle.pf_script.specs.Places.{record_lines, line_at, lines_behind}
 use Rattle.pf_script.specs.Script.{script_records}
-use Rattle.pf_script.specs.Told.{Reading, readings, readings_from, reading, end_reading, end_fault, stage_after, records_in, faults, faults_in}
+use Rattle.pf_script.specs.Told.{Reading, readings, readings_from, reading, end_reading, end_fault, stage_after, records_in}
 
 few_from : (cfg : Config) (n : ℕ) (s : State) (bytes : List ℕ) → length (records_from cfg n s bytes) ≤ n
 unfolding records_from
@@ -68,23 +68,3 @@ records_from_count stage number lines (fields ∷ records) =
 -- Use: as many records are read as a script has.
 pub records_counted : (bytes : List ℕ) → records_in (readings bytes) ≡ length (script_records bytes)
 records_counted bytes = records_from_count Beginning 1 (record_lines bytes) (script_records bytes)
-
--- Use: there is one fault more than records at most.
-few_faults_from : (stage : Stage) (number : ℕ) (lines : List ℕ) (records : List (List (List ℕ)))
-    → length (faults_in (readings_from stage number lines records)) ≤ length records + 1
-unfolding readings_from
-few_faults_from stage number lines [] = by (end_fault stage)
-  where
-    by : (o : Option RecordFault) → length (faults_in (end_reading number (line_at lines) o)) ≤ 1
-    by None = omega arith
-    by (Some fault) = omega arith
-few_faults_from stage number lines (fields ∷ records) =
-    by (record_at stage fields) (few_faults_from (stage_after stage (record_at stage fields)) (number + 1) (lines_behind lines) records)
-  where
-    by : (r : Result Record RecordFault) → length (faults_in (readings_from (stage_after stage r) (number + 1) (lines_behind lines) records)) ≤ length records + 1
-        → length (faults_in (reading number (line_at lines) fields r ∷ readings_from (stage_after stage r) (number + 1) (lines_behind lines) records)) ≤ suc (length records) + 1
-    by (Ok said) few = omega (arith, few)
-    by (Err fault) few = omega (arith, few)
-
-pub few_faults : (bytes : List ℕ) → length (faults bytes) ≤ length bytes + 2
-few_faults bytes = omega (arith, few_records bytes, few_faults_from Beginning 1 (record_lines bytes) (script_records bytes))

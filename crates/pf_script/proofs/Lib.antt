@@ -10,6 +10,6 @@ pub mod Records
 pub mod ScriptExamples
 pub mod ToldExamples
 pub mod CheckLemmas
-pub mod FaultNotesLemmas
 mod PlanLemmas
 mod PlanCheckLemmas
+mod MessagesLemmas

@@ -1,3 +1,6 @@
-pub mod Checked
+pub mod Faults
+pub mod Files
+pub mod Found
 pub mod Laws
+pub mod Lines
 pub mod Reports

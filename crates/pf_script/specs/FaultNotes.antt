@@ -1,3 +1,2 @@
-pub mod BadRecords
 pub mod FileFaults
 pub mod Ranges

@@ -14,3 +14,4 @@ pub mod Check
 pub mod FaultNotes
 pub mod Plan
 pub mod PlanCheck
+pub mod Messages

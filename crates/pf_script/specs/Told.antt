@@ -1,5 +1,5 @@
 -- What a script tells: its records are read one after another, each by what came before it.
-use Rattle.std.specs.Prelude.{ℕ, ◌+◌, ◌-◌, Option, None, Some, Result, Ok, Err, List, [], ◌∷◌}
+use Rattle.std.specs.Prelude.{ℕ, ◌+◌, Option, None, Some, Result, Ok, Err, List, [], ◌∷◌}
 use Rattle.pf_script.specs.declared.fault.BadRecord.{BadRecord}
 use Rattle.pf_script.specs.declared.fault.RecordFault.{RecordFault}
 use Rattle.pf_script.specs.declared.fault.Reason.TheVariants.{NoSettings}
@@ -11,7 +11,6 @@ use Rattle.pf_script.specs.declared.record.ScriptSettings.{ScriptSettings}
 use Rattle.pf_script.specs.declared.stage.Stage.{Stage}
 use Rattle.pf_script.specs.declared.stage.Stage.TheVariants.{Beginning, Headed, Opened}
 use Rattle.pf_script.specs.declared.version.Version.{Version}
-use Rattle.pf_script.specs.Fields.{field}
 use Rattle.pf_script.specs.Parsing.{fault_at, record_at}
 use Rattle.pf_script.specs.Places.{record_lines, line_at, lines_behind}
 use Rattle.pf_script.specs.Script.{script_records}
@@ -33,15 +32,15 @@ end_fault Beginning = Some (fault_at 0 NoSettings)
 end_fault Headed = Some (fault_at 0 NoSettings)
 end_fault (Opened version) = None
 
--- a bad record, with the bytes of its field that is at fault
+-- a bad record, with its fields
 pub record FaultTold : Type 0 where
   pub bad : BadRecord
-  pub at : List ℕ
+  pub fields : List (List ℕ)
 
 abbrev pub fault_told : ℕ → ℕ → List (List ℕ) → RecordFault → FaultTold
 fault_told number line fields fault = record {
   bad = record { number = number; line = line; fault = fault };
-  at = field fields (fault.field - 1);
+  fields = fields;
 }
 
 -- what a record is read as, on its line where it has a fault; at its end a script without settings lacks one

@@ -8,6 +8,7 @@ pub mod fault_notes;
 pub mod fields;
 pub mod line;
 pub mod line_reader;
+pub mod messages;
 pub mod opened;
 pub mod parse;
 mod place;

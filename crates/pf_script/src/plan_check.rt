@@ -1,6 +1,4 @@
-//! Checks of plans. The one contract of this folder: what a check answers is the text of the script's faults, and
-//! its status tells whether there are any.
+//! The faults of plans. The one contract of this folder: `PlanFaults` answers one after another all faults that a plan has.
 
-pub mod check;
 pub mod plan_faults;
 pub mod report;

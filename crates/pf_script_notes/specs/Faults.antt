@@ -1,10 +1,10 @@
--- What is told after the line of a fault of a script.
-use Rattle.std.specs.Prelude.{ℕ, ◌≡◌, Option, None, Some, List, []}
+-- What is told of a fault of a script.
+use Rattle.std.specs.Prelude.{ℕ, ◌≡◌, Bool, Option, None, Some, List, []}
 use Rattle.pf_vocabulary.specs.declared.fault.fault.Fault.{Fault}
 use Rattle.pf_vocabulary.specs.declared.fault.fault.Fault.TheVariants as why
 use Rattle.pf_vocabulary.specs.declared.fault.range_fault.RangeFault.{RangeFault}
 use Rattle.pf_vocabulary.specs.declared.fault.range_fault.RangeFault.TheVariants as range
-use Rattle.pf_script.specs.FaultNotes.BadRecords.{first_fault_note}
+use Rattle.pf_script.specs.Check.Files.{first_text}
 use Rattle.pf_script.specs.FaultNotes.FileFaults.{file_fault_line}
 use Rattle.pf_script.specs.FaultNotes.Ranges.{long_note, outside_note, page_note}
 use Rattle.pf_script.specs.declared.fault_notes.file_fault.FileFault.TheVariants as file
@@ -26,9 +26,9 @@ abbrev pub IsRangeNote : List ℕ → Option SlotRange → RangeFault → List �
 IsRangeNote script asked (range.NotWithin now) text = text ≡ outside_text asked now
 IsRangeNote script asked range.TooLong text = (now : ℕ) × IsSlotsOf script now × (text ≡ long_text asked now)
 
--- of the script of this file, of which this range was asked for, or a page
-abbrev pub IsFaultNote : List ℕ → List ℕ → Option SlotRange → Fault → List ℕ → Type 0
-IsFaultNote name script asked (why.BadRecord number) text = text ≡ first_fault_note name script
-IsFaultNote name script asked why.TooLong text = text ≡ file_fault_line name file.TooLong
-IsFaultNote name script asked (why.BadRange fault) text = IsRangeNote script asked fault text
-IsFaultNote name script asked fault text = text ≡ []
+-- of the script of this file, of which this range was asked for, or a page; with hints, where they are asked for
+abbrev pub IsFaultNote : List ℕ → List ℕ → Bool → Option SlotRange → Fault → List ℕ → Type 0
+IsFaultNote name script hints asked (why.BadRecord number) text = text ≡ first_text name hints script
+IsFaultNote name script hints asked why.TooLong text = text ≡ file_fault_line name file.TooLong
+IsFaultNote name script hints asked (why.BadRange fault) text = IsRangeNote script asked fault text
+IsFaultNote name script hints asked fault text = text ≡ []

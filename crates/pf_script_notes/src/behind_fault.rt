@@ -6,8 +6,8 @@ ghost use Rattle.pf_script_notes.specs.Faults.{IsFaultNote, IsRangeNote, long_te
 
 use pf_desk::desk::Desk;
 use pf_plain_script::plain::plain_script;
+use pf_script::check::script_faults::first_fault_text;
 use pf_script::fault_notes::file_fault::{FileFault, file_fault_line};
-use pf_script::fault_notes::first_fault::first_fault_note;
 use pf_script::fault_notes::range::{long_note, outside_note, page_note};
 use pf_script_run::carry::carry;
 use pf_vocabulary::fault::fault::Fault;
@@ -15,8 +15,8 @@ use pf_vocabulary::fault::range_fault::RangeFault;
 use pf_vocabulary::options::slot_range::SlotRange;
 use std::alloc::{AllocError, Global};
 
-/// What is told after the line of a fault of the script of this file: of a bad record, what a check tells of it; of a script that
-/// is too long, that it is; of a range, which end is beyond, or how many slots it has, for which the script is carried out, and of a
+/// What is told of a fault of the script of this file: of a bad record, what a check tells of it, with its hint, where hints are asked
+/// for; of a script that is too long, that it is; of a range, which end is beyond, or how many slots it has, for which the script is carried out, and of a
 /// page, which has no range, how many were stepped; of any other nothing.
 ///
 /// # Errors
@@ -26,13 +26,14 @@ pub fn fault_note(
     alloc: Global,
     file: &[u8],
     script: &[u8],
+    hints: bool,
     range: Option<SlotRange>,
     fault: Fault,
 ) -> Result<Vec<u8>, Fault>
-    ensures { IfOk result (λ text. IsFaultNote file.now script.now range fault text.items) }
+    ensures { IfOk result (λ text. IsFaultNote file.now script.now hints range fault text.items) }
 {
     match fault {
-        Fault::BadRecord(_) => Ok(first_fault_note(alloc, file, script)?),
+        Fault::BadRecord(_) => Ok(first_fault_text(alloc, file, script, hints)?),
         Fault::TooLong => Ok(file_fault_line(alloc, file, FileFault::TooLong)?),
         Fault::BadRange(why) => range_note(alloc, script, range, why),
         _ => Ok(Vec::new(alloc)),

@@ -1,16 +1,11 @@
+use crate::new_file::NewFile;
 use crate::saver::Saver;
 use std::fs::{
-    File, OpenFile, OpenOptions, Permissions, TryLockError, canonicalize, metadata, remove_file,
-    rename, symlink_metadata,
+    File, OpenFile, Permissions, TryLockError, canonicalize, metadata, symlink_metadata,
 };
 use std::io;
 use std::io::{ErrorKind, Write};
-use std::os::unix::fs::{OpenOptionsExt, PermissionsExt};
-use std::path::Path;
 use std::rt::Files;
-
-// How many names are tried for a new file.
-const NAMES: u8 = 100;
 
 /// Files that sessions lock while they are their journals.
 pub trait Locks: Files {
@@ -80,71 +75,19 @@ fn replace<H: AllocGlobal + Locks>(rt: &H, path: &str, bytes: &[u8]) -> io::Resu
     write_beside(rt, path, Some(found.permissions()), bytes)
 }
 
-/// Writes a new file beside the one of this path, under the first name that is free, and renames it. It has the mode that is kept, where
-/// one is.
+/// Writes a new file beside the one of this path, which takes its place. It has the permissions that are kept, where some are.
 fn write_beside<H: AllocGlobal + Files>(
     rt: &H,
     path: &str,
     kept: Option<Permissions>,
     bytes: &[u8],
 ) -> io::Result<()> {
-    let folder = File::open(rt, folder_of(path))?;
-    let mut options = OpenOptions::new();
-    options.write(true).create_new(true);
-    if let Some(permissions) = &kept {
-        // Whoever may not read the file that was there doesn't read the new one meanwhile either.
-        options.mode(permissions.mode() & 0o777);
-    }
-    for number in 0..NAMES {
-        let beside = format!(in rt.alloc(); "{path}.new{number}")?;
-        match options.open(rt, beside.as_str()) {
-            Ok(file) => {
-                write_and_rename(rt, file, kept, bytes, beside.as_str(), path)?;
-                // Where this fails the file is there, but may not last: it is not told as saved.
-                return folder.sync_all();
-            }
-            Err(fault) if fault.kind() == ErrorKind::AlreadyExists => {}
-            Err(fault) => return Err(fault),
+    let mut new = NewFile::beside(rt, path, kept)?;
+    match new.file.write_all(bytes) {
+        Ok(()) => new.put(rt, path),
+        Err(fault) => {
+            new.remove(rt);
+            Err(fault)
         }
     }
-    Err(io::Error::from(ErrorKind::AlreadyExists))
-}
-
-/// The folder of the file of this path.
-fn folder_of(path: &str) -> &str {
-    match Path::new(path).parent() {
-        Some(folder) if !folder.as_str().is_empty() => folder.as_str(),
-        _ => ".",
-    }
-}
-
-/// Writes a file, so that it lasts, and renames it. Where that fails it is removed.
-fn write_and_rename<H: Files>(
-    rt: &H,
-    mut file: H::File,
-    kept: Option<Permissions>,
-    bytes: &[u8],
-    beside: &str,
-    path: &str,
-) -> io::Result<()> {
-    let written = write_all(&mut file, kept, bytes);
-    drop(file);
-    if written.is_ok() && rename(rt, beside, path).is_ok() {
-        return Ok(());
-    }
-    let _ = remove_file(rt, beside);
-    Err(io::Error::from(ErrorKind::Other))
-}
-
-/// Writes all bytes, so that they last, to a file that gets these permissions where some are given.
-fn write_all<T: Write + OpenFile>(
-    file: &mut T,
-    kept: Option<Permissions>,
-    bytes: &[u8],
-) -> io::Result<()> {
-    file.write_all(bytes)?;
-    if let Some(permissions) = kept {
-        file.set_permissions(permissions)?;
-    }
-    file.sync_all()
 }

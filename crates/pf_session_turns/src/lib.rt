@@ -6,6 +6,7 @@
 mod answer;
 pub mod files;
 mod in_rows;
+pub mod new_file;
 pub mod opening;
 mod save;
 pub mod saver;

@@ -61,26 +61,9 @@ pub err-after : {A E : Type 0} (r : Result A E) (old mid new : Option (List ℕ)
 err-after (Ok x) old mid new text more h k = k
 err-after (Err e) old mid new text more h k = took-after old mid new text more h k
 
--- Of a text so far, whose front the writer has and whose rest waits: a further text is put after it, in whole or in
--- part, and the rest is written, in whole or in part.
-pub so-far-put : (start old new : Option (List ℕ)) (was waiting text more : List ℕ) → TookAllBut was start old text
-    → TookAllBut waiting old new (was ++ more) → TookAllBut waiting start new (text ++ more)
-so-far-put start old new was waiting text more h k =
-    (h.0 ++ k.0, Appends-trans start old new h.0 k.0 h.1 k.1, behind h.0 k.0 waiting was text more h.2 k.2)
-  where
-    behind : (front next waiting was text more : List ℕ) → front ++ was ≡ text → next ++ waiting ≡ was ++ more → (front ++ next) ++ waiting ≡ text ++ more
-    behind front next waiting was text more a b = append_assoc front next waiting ∙ ap (λ t. front ++ t) b ∙ sym (append_assoc front was more) ∙ ap (λ t. t ++ more) a
-
-pub so-far-stopped : (start old new : Option (List ℕ)) (was text more : List ℕ) → TookAllBut was start old text
-    → TookFront old new (was ++ more) → TookFront start new (text ++ more)
-so-far-stopped start old new was text more h k = (k.0, so-far-put start old new was k.0 text more h k.1)
-
+-- Of a text so far the front is written and the rest is written then.
 pub so-far-finished : (start old new : Option (List ℕ)) (was text : List ℕ) → TookAllBut was start old text → Appends old new was → Appends start new text
 so-far-finished start old new was text h k = rw (← h.2) (Appends-trans start old new h.0 was h.1 k)
-
-pub so-far-unfinished : (start old new : Option (List ℕ)) (was text : List ℕ) → TookAllBut was start old text → TookFront old new was → TookFront start new text
-so-far-unfinished start old new was text h k =
-    rw append-nil at (so-far-stopped start old new was text [] h (rw (append-nil was) k))
 
 -- a text is still to come, in whole
 pub all_to_come : (x : Option (List ℕ)) (text : List ℕ) → TookAllBut text x x text

@@ -1,11 +1,11 @@
-//! The program `pfair`: hands its words and streams to `main_words`, and exits with the status that this answers. The streams wait,
+//! The program `pfair`: hands its words and streams to `answer_words`, and exits with the status that this answers. The streams wait,
 //! though they were set not to. Where standard input is a terminal, `prompt_words` may tell how a script or a list ends there.
 #![tactic(auto)]
 
 use pf_cli::host_journals::HostJournals;
 use pf_cli::kept_writer::KeptWriter;
 use pf_cli::patient::Patient;
-use pf_cli::program::{main_words, prompt_words, tell_unread};
+use pf_cli::program::{answer_words, prompt_words, tell_unread};
 use pf_cli::sink::CountedWriter;
 use pf_cli::source::CountedReader;
 use std::io::IsTerminal;
@@ -25,7 +25,7 @@ fn main(rt: HostRuntime) -> ExitCode {
     }
     let mut reader = CountedReader::new(Patient::new(input, &rt));
     let mut writer = KeptWriter::new(Patient::new(rt.stdout(), &rt));
-    let status = main_words(
+    let status = answer_words(
         &rt,
         &words,
         is_terminal,

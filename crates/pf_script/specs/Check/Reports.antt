@@ -1,12 +1,10 @@
 -- The text of a check.
-use Rattle.std.specs.Prelude.{ℕ, ◌-◌, ◌==◌, if◌then◌else◌, List, [], ◌++◌, length, codes}
-use Rattle.std.specs.List.{flat_map}
+use Rattle.std.specs.Prelude.{ℕ, ◌-◌, ◌==◌, if◌then◌else◌, List, [], ◌++◌, codes}
 use Rattle.std.specs.Fmt.{decimal}
 use Rattle.pf_text.specs.Quoted.{quoted}
 use Rattle.pf_script.specs.declared.version.Version.{Version}
 use Rattle.pf_script.specs.declared.version.Version.TheVariants.{First, Second}
 use Rattle.pf_script.specs.Fields.{field}
-use Rattle.pf_script.specs.Script.{script_records}
 use Rattle.pf_script.specs.declared.fault.BadRecord.{BadRecord}
 use Rattle.pf_script.specs.declared.fault.Reason.{Reason}
 use Rattle.pf_script.specs.declared.fault.Reason.TheVariants.{NoRecord, NoChange, NoEvent, NoSettings, LateSettings, NoVersion, NoNumber, Outside, Fields, StepFields}
@@ -45,24 +43,23 @@ reason_text at StepFields = codes "1 or 2 fields are expected"
 abbrev pub field_text : ℕ → List ℕ
 field_text number = if number == 1 then [] else codes ", field " ++ decimal number
 
--- a bad record, with what it has in the field that is at fault
+-- a bad record, with its fields
 abbrev pub fault_shown : BadRecord → List (List ℕ) → FaultTold
-fault_shown bad fields = record { bad = bad; at = field fields (bad.fault.field - 1) }
+fault_shown bad fields = record { bad = bad; fields = fields }
 
 -- the line and the number of a record
 abbrev pub place_text : ℕ → ℕ → List ℕ
 place_text line number = codes "line " ++ decimal line ++ codes ", record " ++ decimal number
 
 -- where it is, and why
-unfoldable pub report_text : FaultTold → List ℕ
-report_text f =
-    codes "line " ++ decimal f.bad.line ++ codes ", record " ++ decimal f.bad.number ++ field_text f.bad.fault.field
-    ++ codes ": " ++ reason_text f.at f.bad.fault.reason ++ codes "\n"
+unfoldable pub report_line : BadRecord → List ℕ → List ℕ
+report_line bad at =
+    codes "line " ++ decimal bad.line ++ codes ", record " ++ decimal bad.number ++ field_text bad.fault.field
+    ++ codes ": " ++ reason_text at bad.fault.reason ++ codes "\n"
+
+abbrev pub report_text : FaultTold → List ℕ
+report_text f = report_line f.bad (field f.fields (f.bad.fault.field - 1))
 
 -- how many records and how many faults there are
 abbrev pub totals_text : ℕ → ℕ → List ℕ
 totals_text records faults = decimal records ++ codes " records, " ++ decimal faults ++ codes " faults\n"
-
--- what a check of a script writes
-unfoldable pub check_text : List ℕ → List ℕ
-check_text script = flat_map report_text (faults script) ++ totals_text (length (script_records script)) (length (faults script))

@@ -5,6 +5,7 @@ use Rattle.pf_script.specs.Fields.{field}
 use Rattle.pf_script.specs.Check.Reports.{count_text, field_text, outside_text}
 use Rattle.pf_text.specs.Quoted.{quoted}
 use Rattle.pf_script.specs.declared.plan.fault.BadRecord.{BadRecord}
+use Rattle.pf_script.specs.declared.plan.state.Progress.{Progress}
 use Rattle.pf_script.specs.declared.plan.fault.Reason.{Reason}
 use Rattle.pf_script.specs.declared.plan.fault.Reason.TheVariants.{NoRecord, NoVersion, NoChange, NoEvent, NoSettings, LateSettings, LateSlot, NoNumber, NoCap, Outside, Fields, JoinFields, StepFields, SettingsFields, NoUnit, HasName, NoName, NameOf, NoTask, NoLabel, LabelTaken, LabelUnknown}
 
@@ -43,17 +44,20 @@ plan_reason_text at NoLabel = quoted at ++ codes " is no label: a letter, then u
 plan_reason_text at LabelTaken = quoted at ++ codes " labels an event already"
 plan_reason_text at LabelUnknown = quoted at ++ codes " labels no event so far"
 
--- a bad record, and the bytes of its field that is at fault
+-- a bad record, with its fields and what came before it
 pub record FaultShown : Type 0 where
   pub bad : BadRecord
-  pub at : List ℕ
+  pub fields : List (List ℕ)
+  pub progress : Progress
 
--- a bad record with these fields
-abbrev pub shown : BadRecord → List (List ℕ) → FaultShown
-shown bad fields = record { bad = bad; at = field fields (bad.fault.field - 1) }
+abbrev pub shown : Progress → BadRecord → List (List ℕ) → FaultShown
+shown progress bad fields = record { bad = bad; fields = fields; progress = progress }
 
 -- where it is, and why
-unfoldable pub plan_report_text : FaultShown → List ℕ
-plan_report_text f =
-    codes "line " ++ decimal f.bad.line ++ codes ", record " ++ decimal f.bad.number ++ field_text f.bad.fault.field
-    ++ codes ": " ++ plan_reason_text f.at f.bad.fault.reason ++ codes "\n"
+unfoldable pub plan_report_line : BadRecord → List ℕ → List ℕ
+plan_report_line bad at =
+    codes "line " ++ decimal bad.line ++ codes ", record " ++ decimal bad.number ++ field_text bad.fault.field
+    ++ codes ": " ++ plan_reason_text at bad.fault.reason ++ codes "\n"
+
+abbrev pub plan_report_text : FaultShown → List ℕ
+plan_report_text f = plan_report_line f.bad (field f.fields (f.bad.fault.field - 1))

@@ -1,5 +1,5 @@
 ghost use Rattle.std.specs.Prelude.{◌≡◌, ◌++◌, OnOk};
-ghost use Rattle.pf_script.specs.Check.Reports.{count_text, fault_shown, field_text, outside_text, place_text, reason_text, report_text, event_words, change_words, totals_text};
+ghost use Rattle.pf_script.specs.Check.Reports.{count_text, fault_shown, field_text, outside_text, place_text, reason_text, report_line, report_text, event_words, change_words, totals_text};
 
 use crate::fault::{BadRecord, Reason};
 use crate::fields::Fields;
@@ -17,9 +17,9 @@ pub fn push_report(text: &mut Vec<u8>, fields: &Fields, bad: BadRecord) -> Resul
 }
 
 /// Adds that line, with what is shown of these bytes.
-#[tactic(auto, unfolding(crate::specs::Check::Reports::report_text))]
+#[tactic(auto, unfolding(crate::specs::Check::Reports::report_line))]
 fn push_fault(text: &mut Vec<u8>, at: &[u8], bad: BadRecord) -> Result<(), AllocError>
-    ensures { OnOk result (text.new.items ≡ text.old.items ++ report_text (record { bad = bad; at = at.now })) }
+    ensures { OnOk result (text.new.items ≡ text.old.items ++ report_line bad at.now) }
 {
     push_place(text, bad.line, bad.number)?;
     push_field(text, bad.fault.field)?;

@@ -39,6 +39,13 @@ impl Labels {
         }
     }
 
+    /// The labels, in the order in which they were given.
+    pub fn all(&self) -> &[Labelled]
+        ensures { result.now ≡ self.now }
+    {
+        &self.all
+    }
+
     /// The number that the event with a label was given, where there is such a label.
     pub fn number_of(&self, label: &[u8]) -> Option<u64>
         ensures { result ≡ number_of_label self.now label.now }

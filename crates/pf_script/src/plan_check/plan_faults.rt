@@ -146,6 +146,13 @@ impl<'a> PlanFaults<'a> {
         }
     }
 
+    /// What came before the next record, or before the one that had the last fault.
+    pub fn progress(&self) -> &Progress
+        ensures { result.now ≡ self.now.progress }
+    {
+        &self.progress
+    }
+
     /// How many records were read.
     pub fn records(&self) -> u64
         ensures { result ≡ self.now.read }
@@ -180,7 +187,7 @@ fn read_heading(alloc: Global, script: &[u8], row: &mut ByteRecord) -> Result<()
 
 /// What a script lacks that ends on this line, where its next record would have this number.
 fn lacking(progress: &Progress, number: u64, line: u64) -> Option<BadRecord>
-    ensures fault { faults_at_end number line (end_fault progress.now) ≡ with_fault result [] [] }
+    ensures fault { faults_at_end progress.now number line (end_fault progress.now) ≡ with_fault progress.now result [] [] }
     ensures number { IfSome result (λ bad. bad.number ≡ number) }
 {
     let fault = progress.end_fault()?;

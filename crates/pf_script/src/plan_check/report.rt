@@ -1,7 +1,8 @@
-ghost use Rattle.std.specs.Prelude.{◌≡◌, ◌++◌, OnOk, codes};
+ghost use Rattle.std.specs.Prelude.{◌≡◌, ◌++◌, ◌-◌, OnOk, codes};
 ghost use Rattle.std.specs.Fmt.{decimal};
+ghost use Rattle.pf_script.specs.Fields.{field};
 ghost use Rattle.pf_text.specs.Quoted.{quoted};
-ghost use Rattle.pf_script.specs.PlanCheck.Reports.{join_fields, named_text, shown, plan_reason_text, plan_report_text};
+ghost use Rattle.pf_script.specs.PlanCheck.Reports.{join_fields, named_text, plan_reason_text, plan_report_line};
 
 use crate::check::report::{push_count, push_field, push_outside, push_place};
 use crate::fields::Fields;
@@ -18,9 +19,9 @@ const NO_RECORD: &str =
 const NO_CHANGE: &str = " is no change: join, leave, delay, limit, label, alter, strike";
 
 /// Adds the line that tells of a bad record with these fields, with what is shown of the one that is at fault.
-#[tactic(auto, unfolding(crate::specs::PlanCheck::Reports::plan_report_text))]
+#[tactic(auto, unfolding(crate::specs::PlanCheck::Reports::plan_report_line))]
 pub fn push_report(text: &mut Vec<u8>, fields: &Fields, bad: BadRecord) -> Result<(), AllocError>
-    ensures { OnOk result (text.new.items ≡ text.old.items ++ plan_report_text (shown bad fields.now)) }
+    ensures { OnOk result (text.new.items ≡ text.old.items ++ plan_report_line bad (field fields.now (bad.fault.field - 1))) }
 {
     let at = fields.field(bad.fault.field.saturating_sub(1));
     push_place(text, bad.line, bad.number)?;

@@ -1,6 +1,6 @@
 use Rattle.std.proofs.Common.{◌∙◌, ◌++◌, ap, codes}
 use Rattle.pf_check_run.specs.Answers.{counted_text}
-use Rattle.pf_check_run.proofs.Told.{appended}
+use Rattle.pf_check_run.proofs.Appended.{appended}
 use Rattle.pf_check_run.proofs.carried.push_totals_line.Goals as goal
 
 pub returns : goal.returns

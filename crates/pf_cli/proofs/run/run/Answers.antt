@@ -1,4 +1,3 @@
-use Rattle.std.proofs.Common.{sym, subst}
 use Rattle.pf_cli.proofs.Running.{unread_if}
 use Rattle.pf_cli.proofs.run.run.Goals as goal
 

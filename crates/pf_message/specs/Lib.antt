@@ -1,0 +1,4 @@
+pub mod Form
+pub mod Nearness
+pub mod Positions
+pub mod Shell

@@ -1,0 +1,9 @@
+pub mod FieldTexts
+pub mod Forms
+pub mod Hints
+pub mod Lines
+pub mod PlanHints
+pub mod PlanTexts
+pub mod Texts
+pub mod WordHints
+pub mod Words
