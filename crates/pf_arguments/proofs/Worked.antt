@@ -9,6 +9,7 @@ use Rattle.pf_vocabulary.specs.Names.Text.{is_text}
 use Rattle.pf_text.specs.Numbers.{number_of}
 use Rattle.pf_vocabulary.specs.Names.Slots.{unit_named}
 use Rattle.pf_convert.specs.List.Times.{blanks_length, few_digits, number_in, number_length, time_in, unit_after}
+use Rattle.pf_convert.specs.Words.Fits.{fit_of}
 use Rattle.pf_convert.specs.Words.Reading.{arrivals_named, conversion_of, first_not_above, format_named, has_quantum, quanta_from, words_from}
 use Rattle.pf_vocabulary.specs.TaskWords.Reading.{with_items}
 use Rattle.pf_arguments.specs.Examples.{Runs, Ranged, Pictured, Styled, Listed, FailingRuns, Files, Drilled, Differences, Compared, Conversions, Reasons, Fitting, Desks, Helped, Told, Showable, WorkedWords}
@@ -194,14 +195,16 @@ reasons = record {
 }
 
 fitting : Fitting
-unfolding clap_on_literals kinds_of topic_asked task_asked file_asked
+unfolding clap_on_literals kinds_of topic_asked task_asked file_asked fit_of conversion_of words_from quanta_from has_quantum first_not_above time_in number_in number_length unit_after blanks_length few_digits
 fitting = record {
   alone = refl;
   text = refl;
   json = refl;
+  of_list = refl;
   of_file = refl;
   dash = refl;
   unknown = (refl, refl);
+  nothing = (refl, refl);
   in_range = (kind.UnknownArgument, unknown_is_not_shown, inl refl, refl);
   help = inl refl;
 }

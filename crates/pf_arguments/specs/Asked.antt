@@ -39,14 +39,16 @@ use Rattle.pf_vocabulary.specs.Options.FailLists.{fail_on_named, on_nothing}
 use Rattle.pf_vocabulary.specs.Options.Formats.{format_named, format_with_cell, format_with_style, format_with_wrap, format_within}
 use Rattle.pf_arguments.specs.Help.{topic_asked}
 use Rattle.pf_arguments.specs.Texts.{EndsWithLesson, IsRefusal, fixed_line, version_line}
-use Rattle.pf_arguments.specs.CommandLine.{any_flag, file_behind, has_flag, is_check, is_convert, is_desk, is_diff, is_drill, is_fit, is_why, kinds_of, program, text_behind, text_behind_run}
+use Rattle.pf_arguments.specs.CommandLine.{any_behind, any_flag, file_behind, has_flag, is_check, is_convert, is_desk, is_diff, is_drill, is_fit, is_why, kinds_of, program, text_behind, text_behind_run}
 use Rattle.pf_text.specs.Numbers.{number_of}
 use Rattle.pf_vocabulary.specs.Questions.Reading.{question_of}
 use Rattle.pf_vocabulary.specs.declared.questions.mistake.WhyMistake.{WhyMistake}
 use Rattle.pf_vocabulary.specs.declared.questions.mistake.WhyMistake.TheVariants as asking
 use Rattle.pf_vocabulary.specs.declared.questions.question.Question.{Question}
 use Rattle.pf_convert.specs.Words.Reading.{ConvertTexts, IsConversion, conversion_of}
+use Rattle.pf_convert.specs.Words.Fits.{fit_of}
 use Rattle.pf_convert.specs.declared.words.conversion.Conversion.{Conversion}
+use Rattle.pf_convert.specs.declared.words.fit_asked.FitAsked.{FitAsked}
 use Rattle.pf_convert.specs.declared.words.mistake.ConvertMistake.{ConvertMistake}
 use Rattle.pf_convert.specs.Words.Texts.{convert_mistake_text}
 
@@ -222,15 +224,15 @@ run_given (Ok format) tasks fail_on = run_listed format (tasks_given format task
 abbrev pub run_of : Option (Text × List Row) → Result Task Mistake
 run_of found = run_given (format_of found) (text_behind_run (codes "task") found) (fail_on_given (text_behind_run (codes "fail-on") found))
 
--- the texts of a conversion, by what was found of a subcommand
+-- the texts of a conversion, or of a fit, by what was found of a subcommand
 abbrev pub convert_texts : Option (Text × List Row) → ConvertTexts
 convert_texts found = record {
-  format = text_behind (codes "convert") (codes "format") found;
-  unit = text_behind (codes "convert") (codes "unit") found;
-  quantum = text_behind (codes "convert") (codes "quantum") found;
-  switch = text_behind (codes "convert") (codes "switch") found;
-  processors = text_behind (codes "convert") (codes "processors") found;
-  arrivals = text_behind (codes "convert") (codes "arrivals") found;
+  format = any_behind (codes "format") found;
+  unit = any_behind (codes "unit") found;
+  quantum = any_behind (codes "quantum") found;
+  switch = any_behind (codes "switch") found;
+  processors = any_behind (codes "processors") found;
+  arrivals = any_behind (codes "arrivals") found;
 }
 
 -- to convert a list so
@@ -254,18 +256,14 @@ abbrev pub check_of : Option (Text × List Row) → Task
 check_of found = if has_flag (codes "check") (codes "run") found then CheckRun else Check
 
 -- the format of a fit that a text names, and text where it is left out
-abbrev pub fit_format_read : Option FitFormat → Result FitFormat Mistake
-fit_format_read None = Err UnknownFormat
-fit_format_read (Some format) = Ok format
+abbrev pub fit_format_given : Option Text → Option FitFormat
+fit_format_given None = Some FitText
+fit_format_given (Some name) = fit_format_named name
 
-abbrev pub fit_format_given : Option Text → Result FitFormat Mistake
-fit_format_given None = Ok FitText
-fit_format_given (Some name) = fit_format_read (fit_format_named name)
-
--- to tell in that format whether it fits
-abbrev pub fit_given : Result FitFormat Mistake → Result Task Mistake
-fit_given (Err mistake) = Err mistake
-fit_given (Ok format) = Ok (Fit format)
+-- to tell so whether it fits
+abbrev pub fit_given : Result FitAsked ConvertMistake → Result Task Mistake
+fit_given (Err mistake) = Err (why.Convert mistake)
+fit_given (Ok asked) = Ok (Fit asked)
 
 -- what a subcommand asks for, and none: the format is a name of one, the ends of the range are numbers, the format has
 -- that range, the width is one that a slot of the format may have, what a run is to fail on is a list of that, and the
@@ -277,7 +275,7 @@ task_of found =
     else if is_diff found then diff_of found
     else if is_convert found then convert_given (conversion_of (convert_texts found))
     else if is_why found then why_of found
-    else if is_fit found then fit_given (fit_format_given (text_behind (codes "fit") (codes "format") found))
+    else if is_fit found then fit_given (fit_of (fit_format_given (any_behind (codes "format") found)) (convert_texts found))
     else run_of found
 
 -- the file of this text: none where it is `-`, which is standard input
@@ -313,10 +311,10 @@ telling_of found = record {
 }
 
 -- the names that the text of `--format` is none of, where that is the mistake
-abbrev pub choices_of : Option (Text × List Row) → Mistake → Option Text
-choices_of found UnknownFormat = Some (if is_fit found then TEXT_FORMATS.now else RUN_FORMATS.now)
-choices_of found (why.Why asking.Format) = Some TEXT_FORMATS.now
-choices_of found mistake = None
+abbrev pub choices_of : Mistake → Option Text
+choices_of UnknownFormat = Some RUN_FORMATS.now
+choices_of (why.Why asking.Format) = Some TEXT_FORMATS.now
+choices_of mistake = None
 
 -- what is told of words that the grammar takes, but that ask for nothing, before such names
 abbrev pub mistake_line : Option (Text × List Row) → Mistake → List ℕ
@@ -326,7 +324,7 @@ mistake_line found mistake = fixed_line mistake
 -- what is told of a mistake: its line, and where notes are told, these names
 abbrev pub IsMistakeText : Option (Text × List Row) → Mistake → List ℕ → Type 0
 IsMistakeText found mistake text =
-    (note : List ℕ) × IsChoiceNote (if (telling_of found).notes then choices_of found mistake else None) note × (text ≡ mistake_line found mistake ++ note)
+    (note : List ℕ) × IsChoiceNote (if (telling_of found).notes then choices_of mistake else None) note × (text ≡ mistake_line found mistake ++ note)
 
 -- the two scripts that are to be compared
 abbrev pub pair_of : Option (Text × List Row) → Result PairNames Mistake
@@ -452,9 +450,10 @@ ShowsError words kind (Err (Refused text)) = (kind ≢ OutOfMemory) × ¬ IsShow
 ShowsError words kind (Err (Mistaken text)) = ⊥
 ShowsError words kind (Err NoMemory) = Unit {0}
 
--- a conversion that is asked for is in order
+-- a conversion that is asked for is in order, and so is what a list is planned for to tell whether it fits
 abbrev pub IsSound : Task → Type 0
 IsSound (Convert conversion) = IsConversion conversion
+IsSound (Fit asked) = IsConversion asked.conversion
 IsSound task = ⊤
 
 abbrev pub IsSoundRequest : Request → Type 0

@@ -68,13 +68,17 @@ abbrev pub why_command : Shape
 why_command = command (codes "why")
     (required (text_argument (codes "slot")) ∷ text_option (codes "task") ∷ format_option ∷ output_option ∷ notes_flag ∷ quiet_flag ∷ file_argument ∷ [])
 
+-- what a list of tasks may be asked for, to convert it, or to tell whether it fits
+abbrev pub list_rules : List Rule
+list_rules =
+    text_option (codes "quantum") ∷ text_option (codes "processors") ∷ text_option (codes "switch") ∷ text_option (codes "arrivals")
+    ∷ text_option (codes "unit") ∷ format_option ∷ output_option ∷ file_argument ∷ []
+
 abbrev pub convert_command : Shape
-convert_command = command (codes "convert")
-    (text_option (codes "quantum") ∷ text_option (codes "processors") ∷ text_option (codes "switch") ∷ text_option (codes "arrivals")
-    ∷ text_option (codes "unit") ∷ format_option ∷ output_option ∷ file_argument ∷ [])
+convert_command = command (codes "convert") list_rules
 
 abbrev pub fit_command : Shape
-fit_command = command (codes "fit") (format_option ∷ output_option ∷ file_argument ∷ [])
+fit_command = command (codes "fit") list_rules
 
 abbrev pub desk_command : Shape
 desk_command = command (codes "desk") (flag_named (codes "json") ∷ text_option (codes "journal") ∷ quiet_flag ∷ file_argument ∷ [])

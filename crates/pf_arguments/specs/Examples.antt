@@ -7,7 +7,11 @@ use Rattle.pf_vocabulary.specs.declared.options.format.Format.TheVariants.{Sched
 use Rattle.pf_convert.specs.declared.words.conversion.Conversion.{Conversion}
 use Rattle.pf_convert.specs.declared.words.conversion.ConvertFormat.TheVariants as made
 use Rattle.pf_convert.specs.declared.words.arrivals.Arrivals.TheVariants.{Aligned, Any}
-use Rattle.pf_convert.specs.declared.words.mistake.ConvertMistake.TheVariants.{Format, Quantum, Processors, SwitchNotBelow, SeveralQuanta}
+use Rattle.pf_convert.specs.declared.words.mistake.ConvertMistake.TheVariants.{FitFormat as BadFitFormat, Format, Quantum, Processors, SwitchNotBelow, SeveralQuanta}
+use Rattle.pf_convert.specs.declared.words.fit_asked.FitAsked.{FitAsked}
+use Rattle.pf_vocabulary.specs.declared.options.fit_format.FitFormat.{FitFormat}
+use Rattle.pf_convert.specs.declared.words.list_word.ListWord.{ListWord}
+use Rattle.pf_convert.specs.declared.words.list_word.ListWord.TheVariants as of_list
 use Rattle.pf_vocabulary.specs.declared.names.unit.Unit.TheVariants.{Millisecond, Microsecond}
 use Rattle.pf_arguments.specs.declared.mistake.Mistake.TheVariants as why
 use Rattle.pf_vocabulary.specs.declared.questions.mistake.WhyMistake.TheVariants as asking
@@ -249,15 +253,24 @@ pub record Reasons : Type 0 where
   pub no_name : AreMistaken (codes "why" ∷ codes "1" ∷ codes "--task" ∷ codes "a/b" ∷ []) (why.Why asking.Task)
   pub help : AsksHelp (codes "why" ∷ codes "--help" ∷ [])
 
--- words that ask whether a script fits
+-- words that ask whether a script fits, or a list
+abbrev pub fit_for : FitFormat → List ℕ → Option ListWord → FitAsked
+fit_for format quanta word = record {
+  format = format;
+  conversion = record { format = made.Script; unit = None; quanta = quanta; switch = 0; processors = None; arrivals = Aligned };
+  list_word = word;
+}
+
 pub record Fitting : Type 0 where
-  pub alone : task_asked (codes "fit" ∷ []) ≡ Some (Fit FitText)
-  pub text : task_asked (codes "fit" ∷ codes "-f" ∷ codes "text" ∷ []) ≡ Some (Fit FitText)
-  pub json : task_asked (codes "fit" ∷ codes "--format=json" ∷ codes "plan.csv" ∷ []) ≡ Some (Fit FitJson)
+  pub alone : task_asked (codes "fit" ∷ []) ≡ Some (Fit (fit_for FitText [] None))
+  pub text : task_asked (codes "fit" ∷ codes "-f" ∷ codes "text" ∷ []) ≡ Some (Fit (fit_for FitText [] None))
+  pub json : task_asked (codes "fit" ∷ codes "--format=json" ∷ codes "plan.csv" ∷ []) ≡ Some (Fit (fit_for FitJson [] None))
+  pub of_list : task_asked (codes "fit" ∷ codes "--quantum" ∷ codes "0.5" ∷ codes "tasks.csv" ∷ []) ≡ Some (Fit (fit_for FitText (500000 ∷ []) (Some of_list.Quantum)))
   pub of_file : file_asked (codes "fit" ∷ codes "plan.csv" ∷ []) ≡ Some (codes "plan.csv")
   pub dash : file_asked (codes "fit" ∷ codes "-" ∷ []) ≡ None
-  -- a format of a run
-  pub unknown : AreMistaken (codes "fit" ∷ codes "-f" ∷ codes "report" ∷ []) UnknownFormat
+  -- a format of a run, and a quantum of nothing, which comes next
+  pub unknown : AreMistaken (codes "fit" ∷ codes "--quantum" ∷ codes "0" ∷ codes "-f" ∷ codes "report" ∷ []) (why.Convert BadFitFormat)
+  pub nothing : AreMistaken (codes "fit" ∷ codes "--quantum" ∷ codes "0" ∷ []) (why.Convert Quantum)
   -- an option that `run` alone has
   pub in_range : IsRefused (codes "fit" ∷ codes "--from" ∷ codes "5" ∷ [])
   pub help : AsksHelp (codes "fit" ∷ codes "--help" ∷ [])

@@ -8,7 +8,6 @@ ghost use Rattle.pf_arguments.specs.Choices.{IsChoiceNote, IsTip, choices_text, 
 use crate::conversion_words::convert_words;
 use crate::mistake::Mistake;
 use crate::telling_words::{any_text, read_telling};
-use crate::words::is_asked;
 use clap::ArgMatches;
 use pf_vocabulary::questions::mistake::WhyMistake;
 use std::alloc::{AllocError, Global};
@@ -18,7 +17,7 @@ use strsim::jaro;
 pub const RUN_FORMATS: &str =
     "schedule, tables, json, report, replies, lags, misses, denials, events, script, processors, stats, chart, svg, windows, jobs, load, quanta, full, trace, html, c";
 
-/// The names of the formats of a fit, and of what is told of a slot.
+/// The names of the formats of what is told of a slot.
 pub const TEXT_FORMATS: &str = "text, json";
 
 // A name is near a word where their likeness is above this, of 0 to 1.
@@ -39,7 +38,7 @@ pub(crate) fn mistake_text(
         return Ok(text);
     }
     let word = any_text(matches, "format").unwrap_or("");
-    text.extend_from_slice(&choice_note(alloc, word, choices_of(matches, mistake))?)?;
+    text.extend_from_slice(&choice_note(alloc, word, choices_of(mistake))?)?;
     Ok(text)
 }
 
@@ -59,11 +58,10 @@ fn push_mistake(
 }
 
 /// The names that the text of `--format` is none of, where that is the mistake.
-fn choices_of(matches: &ArgMatches<'_>, mistake: Mistake) -> Option<&'static str>
-    ensures { option_map (λ names. names.now) result ≡ choices_of (subcommand_rows_of matches.now) mistake }
+fn choices_of(mistake: Mistake) -> Option<&'static str>
+    ensures { option_map (λ names. names.now) result ≡ choices_of mistake }
 {
     match mistake {
-        Mistake::UnknownFormat if is_asked(matches, "fit") => Some(TEXT_FORMATS),
         Mistake::UnknownFormat => Some(RUN_FORMATS),
         Mistake::Why(WhyMistake::Format) => Some(TEXT_FORMATS),
         _ => None,

@@ -1,12 +1,12 @@
-ghost use Rattle.std.specs.Prelude.{◌≡◌, codes, option_map, IfOk};
+ghost use Rattle.std.specs.Prelude.{◌≡◌, option_map, IfOk};
 ghost use Rattle.clap.specs.Words.{subcommand_rows_of};
 ghost use Rattle.pf_convert.specs.Words.Reading.{conversion_of, texts_of};
-ghost use Rattle.pf_arguments.specs.CommandLine.{text_behind};
+ghost use Rattle.pf_arguments.specs.CommandLine.{any_behind};
 ghost use Rattle.pf_arguments.specs.Asked.{IsSound, convert_given, convert_texts};
 
 use crate::mistake::Mistake;
 use crate::task::Task;
-use crate::words::option_text;
+use crate::telling_words::any_text;
 use clap::ArgMatches;
 use pf_convert::words::read::{ConvertWords, read_conversion};
 
@@ -21,7 +21,7 @@ pub(crate) fn read_convert(matches: &ArgMatches<'_>) -> Result<Task, Mistake>
     }
 }
 
-/// The texts of the words of a conversion.
+/// The texts of the words of a conversion, or of a fit.
 pub(crate) fn convert_words<'a>(matches: &ArgMatches<'a>) -> ConvertWords<'a>
     ensures { texts_of result ≡ convert_texts (subcommand_rows_of matches.now) }
 {
@@ -35,9 +35,9 @@ pub(crate) fn convert_words<'a>(matches: &ArgMatches<'a>) -> ConvertWords<'a>
     }
 }
 
-/// The text of an option of a conversion.
+/// The text of an option of it.
 fn convert_text<'a>(matches: &ArgMatches<'a>, option: &str) -> Option<&'a [u8]>
-    ensures { option_map (λ text. text.now) result ≡ text_behind (codes "convert") option.now (subcommand_rows_of matches.now) }
+    ensures { option_map (λ text. text.now) result ≡ any_behind option.now (subcommand_rows_of matches.now) }
 {
-    Some(option_text(matches, "convert", option)?.as_bytes())
+    Some(any_text(matches, option)?.as_bytes())
 }

@@ -9,6 +9,7 @@ mod command_line;
 mod conversion_words;
 pub mod desk_words;
 mod diff_words;
+mod fit_words;
 mod form;
 mod help_hint;
 pub mod laws;

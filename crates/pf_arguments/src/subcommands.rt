@@ -13,12 +13,57 @@ pub(crate) fn fit() -> Subcommand
 {
     Subcommand {
         name: "fit",
-        about: "Tells whether a plan fits, and what that rests on",
+        about: "Tells whether a plan or a list of tasks fits, and what that rests on",
         arguments: FIT,
     }
 }
 
-const FIT: &[Argument] = &[TEXT_OR_JSON, OUTPUT, FILE];
+const FIT: &[Argument] = &[
+    Argument {
+        name: "quantum",
+        letter: None,
+        form: Form::Named("QUANTA"),
+        is_required: false,
+        help: "of a list: how long a slot is [default: tried]",
+    },
+    Argument {
+        name: "processors",
+        letter: None,
+        form: Form::Named("M"),
+        is_required: false,
+        help: "of a list: 1 to 64 [default: as many as needed]",
+    },
+    Argument {
+        name: "switch",
+        letter: None,
+        form: Form::Named("C"),
+        is_required: false,
+        help: "of a list: what a switch takes [default: 0]",
+    },
+    Argument {
+        name: "arrivals",
+        letter: None,
+        form: Form::Named("HOW"),
+        is_required: false,
+        help: "of a list: aligned or any [default: aligned]",
+    },
+    Argument {
+        name: "unit",
+        letter: None,
+        form: Form::Named("UNIT"),
+        is_required: false,
+        help: "of a list: ns, us, ms or s [default: ms]",
+    },
+    TEXT_OR_JSON,
+    OUTPUT,
+    Argument {
+        name: "file",
+        letter: None,
+        form: Form::Placed("FILE"),
+        is_required: false,
+        help: "a plan, a script or a list of tasks; - or none: standard input",
+    },
+];
 
 /// `run`, also asked for by no words at all.
 pub(crate) fn run() -> Subcommand

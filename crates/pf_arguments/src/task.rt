@@ -1,7 +1,7 @@
 use pf_convert::words::conversion::Conversion;
+use pf_convert::words::fit_asked::FitAsked;
 use pf_vocabulary::options::diff_options::DiffOptions;
 use pf_vocabulary::options::fail_on::FailOn;
-use pf_vocabulary::options::fit_format::FitFormat;
 use pf_vocabulary::options::format::Format;
 use pf_vocabulary::questions::question::Question;
 use pf_vocabulary::task_words::task_words::TaskWords;
@@ -21,8 +21,8 @@ pub enum Task {
     Diff(Option<u64>, DiffOptions),
     /// To drill it.
     Drill,
-    /// To tell in this format whether it fits.
-    Fit(FitFormat),
+    /// To tell whether it fits, or a list of tasks does.
+    Fit(FitAsked),
     /// To convert it, a list of tasks in time.
     Convert(Conversion),
     /// To tell why a slot of its run went as it did.

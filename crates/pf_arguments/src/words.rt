@@ -2,13 +2,14 @@ ghost use Rattle.std.specs.Prelude.{◌≡◌, codes, map, option_map, IfOk, Non
 ghost use Rattle.clap.specs.Words.{kind_of, subcommand_rows_of};
 ghost use Rattle.pf_arguments.specs.CommandLine.{has_flag, is_named, text_behind, text_behind_run};
 ghost use Rattle.pf_arguments.specs.Help.{topic_asked};
-ghost use Rattle.pf_arguments.specs.Asked.{IsAsked, IsRequest, IsSound, IsSoundRequest, ShowsError, cell_given, check_of, fail_on_given, file_found, file_of, fit_format_given, format_celled, format_found, format_of, format_wrapped, format_or_tables, name_of, number_given, range_given, range_mistake, style_given, task_of, wrap_given, fit_given};
+ghost use Rattle.pf_arguments.specs.Asked.{IsAsked, IsRequest, IsSound, IsSoundRequest, ShowsError, cell_given, check_of, fail_on_given, file_found, file_of, format_celled, format_found, format_of, format_wrapped, format_or_tables, name_of, number_given, range_given, range_mistake, style_given, task_of, wrap_given};
 
 use crate::choices::mistake_text;
 use crate::command_line::program;
 use crate::conversion_words::read_convert;
 use crate::desk_words::read_desk;
 use crate::diff_words::{are_two, read_diff, read_pair};
+use crate::fit_words::read_fit;
 use crate::mistake::Mistake;
 use crate::request::{Request, WordsFault};
 use crate::run_words::read_run;
@@ -24,7 +25,6 @@ use pf_vocabulary::look::cell::Cell;
 use pf_vocabulary::look::style::Style;
 use pf_vocabulary::look::wrap::Wrap;
 use pf_vocabulary::options::fail_on::FailOn;
-use pf_vocabulary::options::fit_format::FitFormat;
 use pf_vocabulary::options::format::Format;
 use pf_vocabulary::options::slot_range::SlotRange;
 use std::alloc::{AllocError, Global};
@@ -37,7 +37,7 @@ use std::convert::AsStr;
 /// `diff` asks what the records from `--since` on changed, and with a second file what differs between both scripts, of which one
 /// may be standard input; with their sums first by `--summary`, and a status that tells of a difference by `--exit-code`. `drill`
 /// asks for a drill of standard input. `convert` asks for a list of tasks to be converted, in the quanta of `--quantum`, and
-/// `why` asks of a slot. `fit` asks whether the script fits, as text or in the format `--format`. `desk` asks for a session,
+/// `why` asks of a slot. `fit` asks whether the script fits, as text or in the format `--format`, and by the words of `convert` whether a list of tasks does. `desk` asks for a session,
 /// after a script or none, with answers in JSON by `--json` and a journal by `--journal`. `help` and the name of a topic ask for its
 /// text. Answers
 /// `Refused` where the words are not the program's, `Mistaken` where the text of
@@ -45,7 +45,7 @@ use std::convert::AsStr;
 /// `--cell` is no number of 6 to 40, `--wrap` no number of 1 to 4096 or `--style` no style, where the format has none of these,
 /// where the text of `--task` is no list of tasks or the format can't show some alone, and where the text of `--fail-on` is no list of what a run may fail on, the first of these, and where the text of `--since` is
 /// no number above 0, where it stands beside two scripts, or both of these are standard input, the first of these, and the first
-/// word of a conversion, or of what is asked of a slot, that is not as it has to be; and `NoMemory`, in place of any answer, where memory was refused.
+/// word of a conversion, of a fit, or of what is asked of a slot, that is not as it has to be; and `NoMemory`, in place of any answer, where memory was refused.
 pub fn read_words<S: AsStr>(alloc: Global, words: &[S]) -> Result<Request, WordsFault>
     ensures asked { IsAsked (map S.text words.now) result }
     ensures sound { IfOk result IsSoundRequest }
@@ -115,14 +115,6 @@ fn read_task(alloc: Global, matches: &ArgMatches<'_>) -> Result<Result<Task, Mis
     read_run(alloc, matches)
 }
 
-/// The fit that they ask for.
-fn read_fit(matches: &ArgMatches<'_>) -> Result<Task, Mistake>
-    ensures task { result ≡ fit_given (fit_format_given (text_behind (codes "fit") (codes "format") (subcommand_rows_of matches.now))) }
-    ensures sound { IfOk result IsSound }
-{
-    Ok(Task::Fit(read_fit_format(matches)?))
-}
-
 /// A check, which may carry the script out too.
 fn read_check(matches: &ArgMatches<'_>) -> Task
     ensures task { result ≡ check_of (subcommand_rows_of matches.now) }
@@ -165,19 +157,6 @@ pub(crate) fn is_asked(matches: &ArgMatches<'_>, name: &str) -> bool
     ensures { result ≡ is_named name.now (subcommand_rows_of matches.now) }
 {
     matches.subcommand_matches(name).is_some()
-}
-
-/// The format of a fit; text where `--format` is left out.
-fn read_fit_format(matches: &ArgMatches<'_>) -> Result<FitFormat, Mistake>
-    ensures { result ≡ fit_format_given (text_behind (codes "fit") (codes "format") (subcommand_rows_of matches.now)) }
-{
-    let Some(name) = option_text(matches, "fit", "format") else {
-        return Ok(FitFormat::Text);
-    };
-    match FitFormat::named(name) {
-        Some(format) => Ok(format),
-        None => Err(Mistake::UnknownFormat),
-    }
 }
 
 /// The format of a run, of the slots and in the look that they ask for.

@@ -3,6 +3,7 @@ use Rattle.std.proofs.Common.{◌≡◌, ◌⊎◌, ℕ, Bool, true, false, List
 use Rattle.std.specs.Prelude.{◌&&◌, Vec}
 use Rattle.std.specs.declared.alloc.Global.{Global}
 use Rattle.std.specs.Io.KnownBytes.{Keeps}
+use Rattle.pf_vocabulary.specs.declared.fault.answer.Answer.{Answer}
 use Rattle.pf_vocabulary.specs.declared.fault.ending.Ending.{Ending}
 use Rattle.pf_vocabulary.specs.declared.fault.fault.Fault.{Fault}
 use Rattle.pf_vocabulary.specs.declared.fault.fault.Fault.TheVariants as why
@@ -19,8 +20,9 @@ use Rattle.pf_arguments.specs.declared.task.Task.{Task}
 use Rattle.pf_arguments.specs.declared.task.Task.TheVariants.{Run, RunTasks, Check, CheckRun, Diff, Drill, Convert, Fit, Why}
 use Rattle.pf_cli.specs.Ends.{AreRunNotes, IsTextBy}
 use Rattle.pf_cli.specs.Noted.{OneOf, notes_in}
-use Rattle.pf_cli.specs.Tasks.{AnswersTask, IsCarriedOut}
-use Rattle.pf_cli.specs.Versions.{AnswersBytes, AnswersOf, AnswersPlan, AnswersShort}
+use Rattle.pf_cli.specs.Tasks.{AnswersMade, AnswersTask, IsCarriedOut}
+use Rattle.pf_cli.specs.Texts.{TextMade}
+use Rattle.pf_cli.specs.Versions.{AnswersBytes, AnswersOf, AnswersPlan, AnswersShort, AnswersVersion}
 
 -- Use: of a plan the one that belongs to it is carried out, ..
 pub plan_text : (q : Option Plain) (s : PlainScript) (script : List ℕ) → MakesPlain (Some s) q
@@ -40,7 +42,7 @@ own_text (Some p) script made = absurd made
 -- Use: its answer is that of the script.
 pub own_answered : (hints : Bool) (task : Task) (file script : List ℕ) (titles : Titles) (outcome answer : Result Ending Fault) (old new : Option (List ℕ))
     → MakesPlain None (plain script) → titles ≡ untitled → AnswersTask titles None hints task file script outcome old new → answer ≡ outcome
-    → AnswersBytes hints task file script answer old new
+    → AnswersVersion hints task file script answer old new
 own_answered hints task file script titles outcome answer old new made none answers same = by (plain script) made
   where
     by : (q : Option Plain) → MakesPlain None q → AnswersOf q hints task file script answer old new ⊎ ((answer ≡ Err why.NoMemory) × Keeps old new)
@@ -59,13 +61,13 @@ short_answered p hints CheckRun file script answer old new carried short = absur
 short_answered p hints (Diff since options) file script answer old new carried short = short
 short_answered p hints Drill file script answer old new carried short = short
 short_answered p hints (Convert conversion) file script answer old new carried short = absurd carried
-short_answered p hints (Fit format) file script answer old new carried short = short
+short_answered p hints (Fit asked) file script answer old new carried short = short
 short_answered p hints (Why question) file script answer old new carried short = short
 
 -- Use: .. or of the plan to which this one belongs.
 pub plan_answered : (hints : Bool) (task : Task) (file script : List ℕ) (s : PlainScript) (outcome answer : Result Ending Fault) (old new : Option (List ℕ))
     → IsCarriedOut task → MakesPlain (Some s) (plain script) → ((p : Plain) → IsPlain s p → AnswersShort p hints task file outcome old new)
-    → answer ≡ outcome → AnswersBytes hints task file script answer old new
+    → answer ≡ outcome → AnswersVersion hints task file script answer old new
 plan_answered hints task file script s outcome answer old new carried made answers same = by (plain script) made
   where
     by : (q : Option Plain) → MakesPlain (Some s) q → AnswersOf q hints task file script answer old new ⊎ ((answer ≡ Err why.NoMemory) × Keeps old new)
@@ -73,6 +75,16 @@ plan_answered hints task file script s outcome answer old new carried made answe
     by (Some p) made =
         inl (short_answered p hints task file script answer old new carried
         (subst (λ (a : Result Ending Fault). AnswersShort p hints task file a old new) (sym same) (answers p made)))
+
+-- Use: what was made of a text is its answer, ..
+pub text_answered : (hints : Bool) (task : Task) (file text : List ℕ) (made : Result Answer Fault) (answer : Result Ending Fault) (old new : Option (List ℕ))
+    → TextMade hints task file text (Some made) → AnswersMade made answer old new → AnswersBytes hints task file text answer old new
+text_answered hints task file text made answer old new is answered = (Some made, is, answered)
+
+-- .. and where nothing was, that of the script.
+pub script_answered : (hints : Bool) (task : Task) (file text : List ℕ) (answer : Result Ending Fault) (old new : Option (List ℕ))
+    → TextMade hints task file text None → AnswersVersion hints task file text answer old new → AnswersBytes hints task file text answer old new
+script_answered hints task file text answer old new is answered = (None, is, answered)
 
 -- the notes of its text are those of the script
 notes_by : (q : Option Plain) (file script text : List ℕ) (origins : Option (List Origin)) (names : List Named) (made : Result (Vec ℕ Global) Fault)

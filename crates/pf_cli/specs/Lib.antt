@@ -22,4 +22,5 @@ pub mod Runs
 pub mod Source
 pub mod Status
 pub mod Tasks
+pub mod Texts
 pub mod Versions

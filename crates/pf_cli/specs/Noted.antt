@@ -35,7 +35,7 @@ is_followed CheckRun = false
 is_followed (Diff since options) = true
 is_followed Drill = true
 is_followed (Convert conversion) = false
-is_followed (Fit format) = false
+is_followed (Fit asked) = false
 is_followed (Why question) = true
 
 -- the slots that a run is to show; a page has no range
@@ -104,7 +104,7 @@ gone_of (RunTasks format words fail_on) = if fails_on_some fail_on then StreamFa
 gone_of Check = StreamFailed
 gone_of CheckRun = StreamFailed
 gone_of (Convert conversion) = StreamFailed
-gone_of (Fit format) = StreamFailed
+gone_of (Fit asked) = StreamFailed
 gone_of (Diff since options) = gone_diff options
 gone_of task = Done
 

@@ -18,12 +18,10 @@ use Rattle.pf_arguments.specs.declared.task.Task.{Task}
 use Rattle.pf_arguments.specs.declared.task.Task.TheVariants.{Run, RunTasks, Check, CheckRun, Diff, Drill, Convert, Fit, Why}
 use Rattle.pf_vocabulary.specs.Options.FailLists.{on_nothing}
 use Rattle.pf_commands.specs.Answers.{Answers}
-use Rattle.pf_commands.specs.Checks.{ChecksScript}
 use Rattle.pf_commands.specs.Ended.{fails_on, run_status}
 use Rattle.pf_commands.specs.Meaning.{script_meaning}
 use Rattle.pf_commands.specs.Tasks.{RunsTasks}
 use Rattle.pf_change.specs.Change.{change_meaning}
-use Rattle.pf_check_run.specs.Answers.{ChecksRun, IsStopped}
 use Rattle.pf_change.specs.Difference.{told_by}
 use Rattle.pf_change.specs.Made as change
 use Rattle.pf_why_answer.specs.Answer.{WhyMade}
@@ -35,8 +33,6 @@ use Rattle.pf_script.specs.Told.{told}
 use Rattle.pf_drill.specs.Drilled.{Drills}
 use Rattle.pf_drill.specs.Drilled as drill
 use Rattle.pf_drill.specs.Gates.{SomeArrived}
-use Rattle.pf_convert.specs.declared.words.conversion.Conversion.{Conversion}
-use Rattle.pf_convert.specs.Conversion.Conversions.{MakesConversion}
 
 -- the script, which has these titles and origins where it belongs to a plan, was run in this format: the writer took what it means, or a front of that, and the status tells whether the run
 -- fails on what is listed, which it never does on nothing; where the range can't be shown the writer is as it was
@@ -65,39 +61,23 @@ pub record DrillMade (script : List ℕ) (made : Result Answer Fault) : Type 0 w
   pub quiet : IfOk made (λ answer. IsQuiet Done answer.ending)
   pub stopped : IfErr made (drill.Stops (SomeArrived (λ worker quantum. ⊥)) (script_asked script))
 
--- the answer to a list of tasks that is converted
-abbrev pub ListConverted : Conversion → List ℕ → List ℕ → Result Answer Fault → Type 0
-ListConverted conversion file list (Ok made) = MakesConversion file conversion list made
-ListConverted conversion file list (Err fault) = fault ≡ why.NoMemory
-
 -- the answer to whether the script in the file of this name fits; origins where it belongs to a plan
 pub record FitMade (format : FitFormat) (file : List ℕ) (origins : Option (List Origin)) (titles : Titles) (script : List ℕ) (made : Result Answer Fault) : Type 0 where
   pub answer : IfOk made (fit.FitMade format file origins titles script)
   pub stopped : IfErr made (carried.Stops (told script).rest.fault)
 
--- the answer to a check of a script of any version, in the file of this name
-abbrev pub CheckMade : List ℕ → Bool → List ℕ → Result Answer Fault → Type 0
-CheckMade file hints script (Ok made) = ChecksScript file hints script made
-CheckMade file hints script (Err fault) = fault ≡ why.NoMemory
-
--- the answer to a script of any version that is checked and carried out, in the file of this name
-pub record CheckRunMade (file : List ℕ) (hints : Bool) (script : List ℕ) (made : Result Answer Fault) : Type 0 where
-  pub answer : IfOk made (ChecksRun file hints script)
-  pub stopped : IfErr made (IsStopped script)
-
--- the answer to a task with a script that has these titles, or with a list, in the file of this name, and what the writer took;
+-- the answer to a task with a script that is carried out and has these titles, in the file of this name, and what the writer took;
 -- origins where it belongs to a plan
 abbrev pub AnswersTask : Titles → Option (List Origin) → Bool → Task → List ℕ → List ℕ → Result Ending Fault → Option (List ℕ) → Option (List ℕ) → Type 0
 AnswersTask titles origins hints (Run format fail_on) file script answer old new = RunsScript format titles origins fail_on script answer old new
 AnswersTask titles origins hints (RunTasks format words fail_on) file script answer old new = RunsTasks format titles words fail_on script answer old new
-AnswersTask titles origins hints Check file script answer old new = (made : Result Answer Fault) × CheckMade file hints script made × AnswersMade made answer old new
-AnswersTask titles origins hints CheckRun file script answer old new = (made : Result Answer Fault) × CheckRunMade file hints script made × AnswersMade made answer old new
+AnswersTask titles origins hints Check file script answer old new = ⊥
+AnswersTask titles origins hints CheckRun file script answer old new = ⊥
 AnswersTask titles origins hints (Diff since options) file script answer old new = (made : Result Answer Fault) × ChangeMade since options script made × AnswersMade made answer old new
 AnswersTask titles origins hints Drill file script answer old new = (made : Result Answer Fault) × DrillMade script made × AnswersMade made answer old new
-AnswersTask titles origins hints (Convert conversion) file list answer old new =
-    (made : Result Answer Fault) × ListConverted conversion file list made × AnswersMade made answer old new
-AnswersTask titles origins hints (Fit format) file script answer old new =
-    (made : Result Answer Fault) × FitMade format file origins titles script made × AnswersMade made answer old new
+AnswersTask titles origins hints (Convert conversion) file script answer old new = ⊥
+AnswersTask titles origins hints (Fit asked) file script answer old new =
+    (made : Result Answer Fault) × FitMade asked.format file origins titles script made × AnswersMade made answer old new
 AnswersTask titles origins hints (Why question) file script answer old new =
     (made : Result Answer Fault) × WhyMade titles.names question script made × AnswersMade made answer old new
 

@@ -3,6 +3,7 @@
 use Rattle.std.specs.Prelude.{ℕ, ◌≡◌, ◌+◌, ◌-◌, ◌⊎◌, ◌<◌, ◌≤◌, ◌==◌, ◌||◌, nat_lt, if◌then◌else◌, Bool, List, [], ◌∷◌, length, Option, None, Some, Result, Ok, Err}
 use Rattle.std.specs.List.{slice_index_or}
 use Rattle.std.specs.Io.KnownBytes.{Keeps}
+use Rattle.pf_vocabulary.specs.declared.fault.answer.Answer.{Answer}
 use Rattle.pf_vocabulary.specs.declared.fault.ending.Ending.{Ending}
 use Rattle.pf_vocabulary.specs.declared.fault.fault.Fault.{Fault}
 use Rattle.pf_vocabulary.specs.declared.fault.fault.Fault.TheVariants as why
@@ -13,7 +14,8 @@ use Rattle.pf_stream.specs.Reading.{longest_script}
 use Rattle.pf_text.specs.Page.{table_text}
 use Rattle.pf_arguments.specs.declared.task.Task.{Task}
 use Rattle.pf_arguments.specs.declared.task.Task.TheVariants.{Run, RunTasks, Check, CheckRun, Diff, Drill, Convert, Fit, Why}
-use Rattle.pf_cli.specs.Tasks.{AnswersTask}
+use Rattle.pf_cli.specs.Tasks.{AnswersMade, AnswersTask}
+use Rattle.pf_cli.specs.Texts.{TextMade}
 
 -- how many come from a record before this one
 abbrev pub count_below : ℕ → List Origin → ℕ
@@ -34,7 +36,7 @@ task_in p CheckRun = CheckRun
 task_in p (Diff since options) = Diff (Some (since_in p since)) options
 task_in p Drill = Drill
 task_in p (Convert conversion) = Convert conversion
-task_in p (Fit format) = Fit format
+task_in p (Fit asked) = Fit asked
 task_in p (Why question) = Why question
 
 -- the number of the record that the one of this number comes from
@@ -65,23 +67,33 @@ pub record AnswersShort (p : Plain) (hints : Bool) (task : Task) (file : List �
   pub short : length (table_text p.records) ≤ longest_script → AnswersPlain p hints task file answer old new
   pub long : longest_script < length (table_text p.records) → (answer ≡ Err why.TooLong) × Keeps old new
 
--- the answer to a task with a plan; a check reads the plan itself, and a list of tasks is no script, however it begins
+-- the answer to a task with a plan that is carried out
 abbrev pub AnswersPlan : Plain → Bool → Task → List ℕ → List ℕ → Result Ending Fault → Option (List ℕ) → Option (List ℕ) → Type 0
-AnswersPlan p hints Check file script answer old new = AnswersTask untitled None hints Check file script answer old new
-AnswersPlan p hints CheckRun file script answer old new = AnswersTask untitled None hints CheckRun file script answer old new
+AnswersPlan p hints Check file script answer old new = ⊥
+AnswersPlan p hints CheckRun file script answer old new = ⊥
 AnswersPlan p hints (Run format fail_on) file script answer old new = AnswersShort p hints (Run format fail_on) file answer old new
 AnswersPlan p hints (RunTasks format words fail_on) file script answer old new = AnswersShort p hints (RunTasks format words fail_on) file answer old new
 AnswersPlan p hints (Diff since options) file script answer old new = AnswersShort p hints (Diff since options) file answer old new
 AnswersPlan p hints Drill file script answer old new = AnswersShort p hints Drill file answer old new
-AnswersPlan p hints (Convert conversion) file list answer old new = AnswersTask untitled None hints (Convert conversion) file list answer old new
-AnswersPlan p hints (Fit format) file script answer old new = AnswersShort p hints (Fit format) file answer old new
+AnswersPlan p hints (Convert conversion) file script answer old new = ⊥
+AnswersPlan p hints (Fit asked) file script answer old new = AnswersShort p hints (Fit asked) file answer old new
 AnswersPlan p hints (Why question) file script answer old new = AnswersShort p hints (Why question) file answer old new
 
--- the answer to a task with a script of any version, in the file of this name
+-- the answer to a task with a script of any version that is carried out, in the file of this name
 abbrev pub AnswersOf : Option Plain → Bool → Task → List ℕ → List ℕ → Result Ending Fault → Option (List ℕ) → Option (List ℕ) → Type 0
 AnswersOf None hints task file script answer old new = AnswersTask untitled None hints task file script answer old new
 AnswersOf (Some p) hints task file script answer old new = AnswersPlan p hints task file script answer old new
 
-abbrev pub AnswersBytes : Bool → Task → List ℕ → List ℕ → Result Ending Fault → Option (List ℕ) → Option (List ℕ) → Type 0
-AnswersBytes hints task file script answer old new =
+abbrev pub AnswersVersion : Bool → Task → List ℕ → List ℕ → Result Ending Fault → Option (List ℕ) → Option (List ℕ) → Type 0
+AnswersVersion hints task file script answer old new =
     AnswersOf (plain script) hints task file script answer old new ⊎ ((answer ≡ Err why.NoMemory) × Keeps old new)
+
+-- what was made of the text is written; where nothing was, it is a script that is carried out
+abbrev pub AnswersText : Option (Result Answer Fault) → Bool → Task → List ℕ → List ℕ → Result Ending Fault → Option (List ℕ) → Option (List ℕ) → Type 0
+AnswersText None hints task file text answer old new = AnswersVersion hints task file text answer old new
+AnswersText (Some made) hints task file text answer old new = AnswersMade made answer old new
+
+-- the answer to a task with a text, in the file of this name: a list of tasks, or a script or plan
+abbrev pub AnswersBytes : Bool → Task → List ℕ → List ℕ → Result Ending Fault → Option (List ℕ) → Option (List ℕ) → Type 0
+AnswersBytes hints task file text answer old new =
+    (made : Option (Result Answer Fault)) × TextMade hints task file text made × AnswersText made hints task file text answer old new

@@ -25,6 +25,7 @@ mod sat;
 mod script_source;
 mod task_end;
 mod tasks;
+mod text_answer;
 mod two_scripts;
 mod versions;
 

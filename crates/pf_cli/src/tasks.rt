@@ -1,25 +1,20 @@
-ghost use Rattle.std.specs.Prelude.{◌≡◌, ◌-◌, ◌^◌, ◌<◌, ◌≤◌, [], length, option_map, IfOk, IfErr};
+ghost use Rattle.std.specs.Prelude.{◌-◌, ◌^◌, ◌<◌, ◌≤◌, length, option_map, IfOk};
 ghost use Rattle.pf_vocabulary.specs.Fault.Faults.{CountsWrites, IsUnwritten};
 ghost use Rattle.pf_stream.specs.Reading.{longest_script};
-ghost use Rattle.pf_convert.specs.Words.Reading.{IsConversion};
 ghost use Rattle.pf_cli.specs.Ends.{LeavesDesk, outcome_of};
-ghost use Rattle.pf_cli.specs.Tasks.{AnswersTask, CheckMade, IsCarriedOut, IsQuietIfDone, ListConverted, RunsScript};
+ghost use Rattle.pf_cli.specs.Tasks.{AnswersTask, IsCarriedOut, IsQuietIfDone, RunsScript};
 
 use crate::answering::write_answer;
 use crate::open_gate::OpenGate;
 use crate::task_end::TaskEnd;
 use pf_arguments::task::Task;
 use pf_change::diff::diff;
-use pf_commands::check::check;
 use pf_commands::run::run;
 use pf_commands::task_run::run_tasks;
-use pf_convert::conversion::convert::convert;
-use pf_convert::words::conversion::Conversion;
 use pf_drill::drill::drill;
 use pf_fit_command::fit::fit;
 use pf_plain_script::origin::Origin;
 use pf_stream::sink::Sink;
-use pf_vocabulary::fault::answer::Answer;
 use pf_vocabulary::fault::fault::Fault;
 use pf_vocabulary::names::titles::Titles;
 use pf_vocabulary::options::fail_on::FailOn;
@@ -64,8 +59,8 @@ pub(crate) fn do_task<H: AllocGlobal + Threads + Wait + Sync, W: Sink>(
         }
         Task::Drill => TaskEnd::Other(write_answer(drill(rt, alloc, script, &OpenGate), writer)),
         Task::Check | Task::CheckRun | Task::Convert(_) => unreachable!(),
-        Task::Fit(format) => TaskEnd::Other(write_answer(
-            fit(alloc, format, file, script, origins, titles),
+        Task::Fit(asked) => TaskEnd::Other(write_answer(
+            fit(alloc, asked.format, file, script, origins, titles),
             writer,
         )),
         Task::Why(question) => TaskEnd::Other(write_answer(
@@ -95,40 +90,5 @@ fn run_script<W: Sink>(
     match run(alloc, script, writer, format, titles, origins, fail_on) {
         Ok(ran) => TaskEnd::Ran(ran),
         Err(fault) => TaskEnd::Other(Err(fault)),
-    }
-}
-
-/// The answer to a check of a script of any version; with hints, where they are asked for.
-pub(crate) fn check_script(
-    alloc: Global,
-    file: &[u8],
-    script: &[u8],
-    hints: bool,
-) -> Result<Answer, Fault>
-    requires short { length script.now ≤ longest_script }
-    ensures made { CheckMade file.now hints script.now result }
-    ensures quiet { IfOk result (λ answer. answer.ending.notes.items ≡ []) }
-    ensures unwritten { IfErr result IsUnwritten }
-{
-    match check(alloc, file, script, hints) {
-        Ok(answer) => Ok(answer),
-        Err(_) => Err(Fault::NoMemory),
-    }
-}
-
-/// The answer to a list of tasks, in a file of this name, that is converted.
-pub(crate) fn convert_list(
-    alloc: Global,
-    file: &[u8],
-    list: &[u8],
-    asked: &Conversion,
-) -> Result<Answer, Fault>
-    requires { IsConversion asked.now }
-    ensures made { ListConverted asked.now file.now list.now result }
-    ensures unwritten { IfErr result IsUnwritten }
-{
-    match convert(alloc, file, list, asked) {
-        Ok(answer) => Ok(answer),
-        Err(_) => Err(Fault::NoMemory),
     }
 }

@@ -6,17 +6,17 @@ ghost use Rattle.pf_arguments.specs.Asked.{IsSound};
 ghost use Rattle.pf_cli.specs.Ends.{LeavesDesk, outcome_of};
 ghost use Rattle.pf_cli.specs.Noted.{AreNotesOf, noting_behind, noting_of};
 ghost use Rattle.pf_cli.specs.Tasks.{IsCarriedOut, IsOfScript, IsQuietIfDone};
-ghost use Rattle.pf_cli.specs.Versions.{AnswersBytes, AnswersRecords, AnswersShort, count_below, number_from, numbered, numbered_fault, since_in, task_in};
+ghost use Rattle.pf_cli.specs.Versions.{AnswersBytes, AnswersRecords, AnswersShort, AnswersVersion, count_below, number_from, numbered, numbered_fault, since_in, task_in};
 
 use crate::answering::write_answer;
 use crate::noted::Noted;
 use crate::notes::{end_with_notes, with_notes};
 use crate::noting::Noting;
 use crate::task_end::TaskEnd;
-use crate::tasks::{check_script, convert_list, do_task};
+use crate::tasks::do_task;
+use crate::text_answer::text_answer;
 use pf_arguments::task::Task;
 use pf_arguments::telling::Telling;
-use pf_check_run::check_run::check_run;
 use pf_plain_script::origin::Origin;
 use pf_plain_script::plain::{PlainScript, plain_script};
 use pf_stream::reading::LONGEST_SCRIPT;
@@ -28,7 +28,7 @@ use std::sync::Wait;
 use std::thread::Threads;
 
 /// Does a task with a script of these bytes, of any version: with a plan by the script of version 2 that belongs to
-/// it; or with a list of tasks of these bytes, however it begins. Has its notes, where they are asked for. The outcome is a fault of
+/// it; or with a list of tasks of these bytes, where that is what the task or the bytes are for. Has its notes, where they are asked for. The outcome is a fault of
 /// the task; `Write` where the writer fails or takes nothing. The writer's count of failures must be below `u64::MAX` before the call.
 pub(crate) fn do_script<H: AllocGlobal + Threads + Wait + Sync, W: Sink>(
     rt: &H,
@@ -47,14 +47,13 @@ pub(crate) fn do_script<H: AllocGlobal + Threads + Wait + Sync, W: Sink>(
     ensures writes { CountsWrites result.outcome (W.failed writer.old) (W.failed writer.new) }
 {
     let noting = Noting::of(telling, &task);
-    let made = match &task {
-        Task::Check => check_script(rt.alloc(), file, script, noting.hints),
-        Task::CheckRun => check_run(rt.alloc(), file, script, noting.hints),
-        Task::Convert(conversion) => convert_list(rt.alloc(), file, script, conversion),
-        _ => return do_version(rt, task, noting, file, script, writer),
-    };
-    let outcome = write_answer(made, writer);
-    with_notes(rt.alloc(), noting, file, script, outcome)
+    match text_answer(rt.alloc(), &task, file, script, noting.hints) {
+        Some(made) => {
+            let outcome = write_answer(made, writer);
+            with_notes(rt.alloc(), noting, file, script, outcome)
+        }
+        None => do_version(rt, task, noting, file, script, writer),
+    }
 }
 
 /// The same with a script that is carried out.
@@ -70,7 +69,7 @@ fn do_version<H: AllocGlobal + Threads + Wait + Sync, W: Sink>(
     requires short { length script.now ≤ longest_script }
     requires carried { IsCarriedOut task }
     requires writes { W.failed writer.old < 2 ^ 64 - 1 }
-    ensures answers { AnswersBytes noting.hints task file.now script.now result.outcome (W.contents writer.old) (W.contents writer.new) }
+    ensures answers { AnswersVersion noting.hints task file.now script.now result.outcome (W.contents writer.old) (W.contents writer.new) }
     ensures notes { AreNotesOf (noting_behind noting result.outcome) file.now script.now result.outcome result.notes }
     ensures quiet { IfOk result.outcome IsQuietIfDone }
     ensures writes { CountsWrites result.outcome (W.failed writer.old) (W.failed writer.new) }

@@ -1,4 +1,5 @@
 pub mod Counting
+pub mod Counts
 pub mod Division
 pub mod Common
 pub mod Powers
@@ -15,3 +16,5 @@ pub mod Arriving
 pub mod ConversionLemmas
 pub mod ListLemmas
 pub mod WordsLemmas
+pub mod FitLemmas
+pub mod MarginsLemmas

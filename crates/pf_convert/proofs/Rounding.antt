@@ -46,7 +46,7 @@ task_loaded base tasks i l period d lt within h is fits =
 pub same_is_no_worse : (a : Loaded) → IsNoWorse a a
 same_is_no_worse a = inr (refl, omega arith)
 
-le_over : (a b : Loaded) → IsNoWorse a b → a.load * b.base ≤ b.load * a.base
+pub le_over : (a b : Loaded) → IsNoWorse a b → a.load * b.base ≤ b.load * a.base
 le_over a b h = elim h [ inl lt ↦ omega (arith, lt) | inr both ↦ omega (arith, both.0) ]
 
 -- products of three, in turn

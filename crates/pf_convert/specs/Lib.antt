@@ -10,5 +10,7 @@ pub mod Outcomes
 pub mod Quotients
 pub mod Arrivals
 pub mod Conversion
+pub mod Fit
 pub mod List
+pub mod Margins
 pub mod Words

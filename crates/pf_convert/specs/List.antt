@@ -11,3 +11,4 @@ pub mod Quotes
 pub mod Reading
 pub mod Times
 pub mod Units
+pub mod Kind

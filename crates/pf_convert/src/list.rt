@@ -8,6 +8,7 @@ pub mod file_report;
 pub mod heading;
 pub mod heading_report;
 pub mod hints;
+pub mod kind;
 pub mod list;
 pub mod list_head;
 pub mod listed;

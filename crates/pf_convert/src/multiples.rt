@@ -22,7 +22,7 @@ fn first_multiple(a: u64, b: u64) -> Option<u64>
 
 /// The least base that both divide, none where there is none.
 #[tactic(auto, using(crate::proofs::Common::turned))]
-fn least_of_both(a: u64, b: u64) -> Option<u64>
+pub fn least_of_both(a: u64, b: u64) -> Option<u64>
     requires first { 1 ≤ a }
     requires second { 1 ≤ b }
     ensures { MatchOption result (NoneOfBoth a b) (IsLeastOfBoth a b) }

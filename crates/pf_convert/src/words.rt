@@ -3,6 +3,9 @@
 
 pub mod arrivals;
 pub mod conversion;
+pub mod fit;
+pub mod fit_asked;
+pub mod list_word;
 pub mod mistake;
 pub mod quanta;
 pub mod read;

@@ -1,7 +1,7 @@
 /// What help tells of the topic `list`.
 pub const LIST: &str = "\
-pfair convert reads a list of tasks, with a heading and a line for each task;
-comments, blanks and empty lines are as in a plan.
+pfair fit and pfair convert read a list of tasks, with a heading and a line
+for each task; comments, blanks and empty lines are as in a plan.
 
   name      or task: a letter, then up to 23 letters, digits, spaces, _ - . +
   work      or wcet, cost, C: what a job takes at most

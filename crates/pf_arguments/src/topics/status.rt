@@ -3,7 +3,7 @@ pub const STATUS: &str = "\
 0  done; fit: it fits; check: no fault; a closed pipe
 1  a bad record or line, or a script that is too long; check: a fault, or
    with --run something refused, denied or missed; diff --exit-code:
-   something differs; convert: a list has a fault; desk: a line was bad
+   something differs; fit, convert: a list has a fault; desk: a line was bad
 2  words that are not understood, or slots that were not stepped
 3  a file or stream that cannot be opened, read or written
 4  out of memory; drill: no place for its reader

@@ -11,10 +11,11 @@ use Rattle.pf_convert.specs.List.Messages.{hint_text}
 use Rattle.pf_convert.specs.List.Times.{places_of, time_in}
 use Rattle.pf_convert.specs.Words.Reading.{ConvertTexts}
 use Rattle.pf_convert.specs.declared.words.mistake.ConvertMistake.{ConvertMistake}
-use Rattle.pf_convert.specs.declared.words.mistake.ConvertMistake.TheVariants.{Format, Unit as BadUnit, Quantum, Switch, Processors, Arrivals, SwitchNotBelow, SeveralQuanta}
+use Rattle.pf_convert.specs.declared.words.mistake.ConvertMistake.TheVariants.{Format, FitFormat, Unit as BadUnit, Quantum, Switch, Processors, Arrivals, SwitchNotBelow, SeveralQuanta}
 
 abbrev pub mistake_words : ConvertMistake → List ℕ
 mistake_words Format = codes "unknown format "
+mistake_words FitFormat = codes "unknown format "
 mistake_words BadUnit = codes "--unit takes ns, us, ms or s, not "
 mistake_words Quantum = codes "--quantum takes 1 to 64 times above 0 and up to 1 s, joined by commas, each once, not "
 mistake_words Switch = codes "--switch takes a time, not "
@@ -26,6 +27,7 @@ mistake_words SeveralQuanta = codes "--format script takes one quantum"
 -- the text of the word that is mistaken
 abbrev pub mistaken_word : ConvertTexts → ConvertMistake → Option (List ℕ)
 mistaken_word t Format = t.format
+mistaken_word t FitFormat = t.format
 mistaken_word t BadUnit = t.unit
 mistaken_word t Quantum = t.quantum
 mistaken_word t Switch = t.switch
@@ -40,6 +42,7 @@ mistaken_text t mistake = unwrap_or (mistaken_word t mistake) []
 -- the value that a mistake names: the word, or a quantum as a decimal
 abbrev pub value_shown : ConvertTexts → ConvertMistake → List ℕ
 value_shown t Format = quoted (mistaken_text t Format)
+value_shown t FitFormat = quoted (mistaken_text t FitFormat)
 value_shown t BadUnit = quoted (mistaken_text t BadUnit)
 value_shown t Quantum = quoted (mistaken_text t Quantum)
 value_shown t Switch = quoted (mistaken_text t Switch)
@@ -68,6 +71,7 @@ or_what_times_are hint =
 -- what would be right in place of a word
 abbrev pub mistake_hint : ConvertTexts → ConvertMistake → List ℕ
 mistake_hint t Format = unwrap_or (near_name (mistaken_text t Format) (codes "script" ∷ codes "table" ∷ codes "json" ∷ [])) (codes "script, table, json")
+mistake_hint t FitFormat = unwrap_or (near_name (mistaken_text t FitFormat) (codes "text" ∷ codes "json" ∷ [])) (codes "text, json")
 mistake_hint t BadUnit = unwrap_or (near_name (mistaken_text t BadUnit) (codes "ns" ∷ codes "us" ∷ codes "ms" ∷ codes "s" ∷ [])) []
 mistake_hint t Quantum = quanta_hint (mistaken_text t Quantum)
 mistake_hint t Switch = or_what_times_are (no_time_hint false (mistaken_text t Switch))

@@ -58,7 +58,7 @@ fn answer_list(
 }
 
 /// The answer that only tells these messages.
-fn fault_answer(
+pub fn fault_answer(
     alloc: Global,
     file: &[u8],
     list: &[u8],
@@ -72,7 +72,7 @@ fn fault_answer(
 }
 
 /// What plans are made under.
-fn terms_of(asked: &Conversion) -> Terms
+pub fn terms_of(asked: &Conversion) -> Terms
     ensures { result ≡ terms_of asked.now }
 {
     Terms {

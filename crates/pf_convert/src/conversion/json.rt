@@ -94,7 +94,7 @@ fn push_processors(text: &mut Vec<u8>, processors: Option<u64>) -> Result<(), Al
 }
 
 /// The word that asks for arrivals.
-fn arrivals_word(arrivals: Arrivals) -> &'static str
+pub fn arrivals_word(arrivals: Arrivals) -> &'static str
     ensures { result.now ≡ arrivals_word arrivals }
 {
     match arrivals {
@@ -120,7 +120,7 @@ fn push_tail(text: &mut Vec<u8>, series: Series) -> Result<(), AllocError>
 }
 
 /// Adds a number, or null where there is none.
-fn push_option(text: &mut Vec<u8>, number: Option<u64>) -> Result<(), AllocError>
+pub fn push_option(text: &mut Vec<u8>, number: Option<u64>) -> Result<(), AllocError>
     ensures { OnOk result (text.new.items ≡ text.old.items ++ option_json number) }
 {
     match number {
@@ -146,7 +146,7 @@ fn push_quanta(
 }
 
 /// What stands before the element of a list at a place.
-fn comma(place: usize) -> &'static str
+pub fn comma(place: usize) -> &'static str
     ensures { result.now ≡ comma place }
 {
     if place == 0 { "" } else { "," }
@@ -190,7 +190,7 @@ fn push_plan(
 }
 
 /// Adds what comes before the tasks of a plan.
-fn push_plan_head(
+pub fn push_plan_head(
     text: &mut Vec<u8>,
     processors: Option<u64>,
     quantum: u64,
@@ -220,14 +220,14 @@ fn push_plan_head(
 }
 
 /// The word of a truth.
-fn truth(is: bool) -> &'static str
+pub fn truth(is: bool) -> &'static str
     ensures { result.now ≡ truth is }
 {
     if is { "true" } else { "false" }
 }
 
 /// Whether a plan fits that needs so many processors.
-fn fits_word(processors: Option<u64>, needed: u64) -> &'static str
+pub fn fits_word(processors: Option<u64>, needed: u64) -> &'static str
     ensures { result.now ≡ fits_word processors needed }
 {
     if needed <= processors.unwrap_or(MOST_PROCESSORS) {
@@ -239,7 +239,7 @@ fn fits_word(processors: Option<u64>, needed: u64) -> &'static str
 
 /// Adds a quantum without a plan.
 #[tactic(auto, unfolding(crate::specs::Conversion::Json::no_plan_json))]
-fn push_no_plan(
+pub fn push_no_plan(
     text: &mut Vec<u8>,
     file: &ListFile<'_>,
     arrivals: Arrivals,
@@ -341,7 +341,7 @@ fn push_slotted(
 }
 
 /// Adds tasks in time.
-fn push_tasks(text: &mut Vec<u8>, tasks: &[Listed]) -> Result<(), AllocError>
+pub fn push_tasks(text: &mut Vec<u8>, tasks: &[Listed]) -> Result<(), AllocError>
     ensures { OnOk result (text.new.items ≡ text.old.items ++ numbered task_item 0 tasks.now) }
 {
     for (place, task) in tasks.iter().enumerate() {

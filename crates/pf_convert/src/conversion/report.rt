@@ -42,7 +42,7 @@ fn share_cell(alloc: Global, a: u128, b: u128) -> Result<Vec<u8>, AllocError>
 }
 
 /// Whether a task has a deadline.
-fn has_deadline(tasks: &[Listed]) -> bool
+pub fn has_deadline(tasks: &[Listed]) -> bool
     ensures { result ≡ has_deadline tasks.now }
 {
     tasks.iter().any(|task| task.times.deadline.is_some())

@@ -37,7 +37,11 @@ pub fn least_work_of(alloc: Global, tasks: &[Listed]) -> Result<u128, AllocError
 }
 
 /// The times of tasks.
-fn times_of(alloc: Global, tasks: &[Listed]) -> Result<Vec<Timed>, AllocError>
+///
+/// # Errors
+///
+/// Where memory is refused.
+pub fn times_of(alloc: Global, tasks: &[Listed]) -> Result<Vec<Timed>, AllocError>
     ensures { IfOk result (λ times. times.items ≡ map (λ t. t.times) tasks.now) }
 {
     let mut times = Vec::new(alloc);

@@ -17,11 +17,13 @@ use pf_text::quoted::push_quoted;
 use pf_vocabulary::names::unit::Unit;
 use std::alloc::{AllocError, Global};
 
-/// Which word of a conversion is mistaken, in the order in which they are looked at.
+/// Which word of a conversion or a fit is mistaken, in the order in which they are looked at.
 #[derive(Clone, Copy)]
 pub enum ConvertMistake {
     /// `--format` names none of `script`, `table` and `json`.
     Format,
+    /// `--format` of a fit names neither `text` nor `json`.
+    FitFormat,
     /// `--unit` names none of `ns`, `us`, `ms` and `s`.
     Unit,
     /// `--quantum` isn't 1 to 64 times above 0 and up to a second, joined by commas, no two of them equal.
@@ -64,7 +66,7 @@ impl ConvertMistake {
         ensures { result.now ≡ mistake_words self }
     {
         match self {
-            ConvertMistake::Format => "unknown format ",
+            ConvertMistake::Format | ConvertMistake::FitFormat => "unknown format ",
             ConvertMistake::Unit => "--unit takes ns, us, ms or s, not ",
             ConvertMistake::Quantum => {
                 "--quantum takes 1 to 64 times above 0 and up to 1 s, joined by commas, each once, not "
@@ -82,7 +84,7 @@ impl ConvertMistake {
         ensures { result.now ≡ mistaken_text (texts_of words.now) self }
     {
         let word = match self {
-            ConvertMistake::Format => words.format,
+            ConvertMistake::Format | ConvertMistake::FitFormat => words.format,
             ConvertMistake::Unit => words.unit,
             ConvertMistake::Quantum => words.quantum,
             ConvertMistake::Switch => words.switch,
@@ -119,6 +121,7 @@ impl ConvertMistake {
                 let names = ["script", "table", "json"];
                 near_hint(alloc, word, &names, "script, table, json")
             }
+            ConvertMistake::FitFormat => near_hint(alloc, word, &["text", "json"], "text, json"),
             ConvertMistake::Unit => near_hint(alloc, word, &["ns", "us", "ms", "s"], ""),
             ConvertMistake::Quantum => quanta_hint(alloc, word),
             ConvertMistake::Switch => switch_hint(alloc, word),

@@ -1,0 +1,5 @@
+pub mod Filling
+pub mod Firsts
+pub mod Places
+pub mod Ready
+pub mod Showing

@@ -1,0 +1,5 @@
+use Rattle.pf_convert.proofs.MarginsLemmas.Laws as laws
+use Rattle.pf_convert.proofs.margins.laws.least_divisor_is_served.Goals as goal
+
+pub returns : goal.returns
+returns c = laws.least_divisor_is_served

@@ -1,0 +1,14 @@
+pub mod Short
+pub mod Filled
+pub mod Shown
+pub mod Exactness
+pub mod Headline
+pub mod Table
+pub mod Lateness
+pub mod Notes
+pub mod NextStep
+pub mod Text
+pub mod NoPlan
+pub mod Json
+pub mod Answers
+pub mod Asked
