@@ -9,6 +9,7 @@ import sentences
 from pictures import in_use
 
 KEYS = ("quanta", "migrations", "preemptions", "jobs", "response_min", "response_max", "missed", "tardiness_max", "lag_min", "lag_max")
+OVER_CAPACITY = 20  # a denial
 
 
 def up(a, b, places):
@@ -96,6 +97,12 @@ class Fit:
         units = -sum(it.free for it in self.over)
         return {"first": self.over[0].slot, "late": units // self.settings.base, "slots": len(self.over), "units": units} if self.over else None
 
+    def joins(self):
+        """The units of all joins held, where one is denied as it asks for more than the cap leaves, or None."""
+        if not any(it.code == OVER_CAPACITY for it in sentences.denials(self.script)):
+            return None
+        return sum(event.weight().units(self.settings.base) for event in self.script.events().values() if event.kind == "join")
+
     def worst(self):
         """The tasks with the greatest response and lag, as parts of their periods, and the sums of preemptions and migrations."""
         if not self.tasks:
@@ -110,10 +117,21 @@ class Fit:
 
 def tightest_text(fit):
     it, base = fit.tightest, fit.settings.base
-    if it is None:
-        return "no slot was stepped"
-    free = f"{it.free} free" if it.free >= 0 else f"{-it.free} too many"
-    return f"{up(it.load, base, 4)} of {it.processors} processors in slot {it.slot} ({it.load} of {it.room} units), {free}"
+    free = f"{cut(it.free, base, 4)} free" if it.free >= 0 else f"{up(-it.free, base, 4)} too much"
+    return f"{up(it.load, base, 4)} of {it.processors} processors in slot {it.slot}, {free}"
+
+
+def top_lines(fit):
+    """The verdict, the tightest slot and the counts."""
+    counts = f"in {fit.now} slots: {fit.refused} refused, {fit.denied} denied, {fit.unreached} not reached, {fit.missed} windows missed"
+    if fit.tightest is None:
+        return [f"{fit.verdict()}: no slot was stepped", counts]
+    if fit.verdict() != "does not fit":
+        return [f"{fit.verdict()}: {tightest_text(fit)}", counts]
+    lines = [f"does not fit: {counts}", f"tightest: {tightest_text(fit)}"]
+    if (joins := fit.joins()) is not None:
+        lines.append(f"all joins together: {up(joins, fit.settings.base, 4)} of {fit.settings.processors} processors")
+    return lines
 
 
 def cells(fit, it):
@@ -147,16 +165,15 @@ def worst_text(fit):
 
 
 def text(fit):
-    lines = [f"{fit.verdict()}: {tightest_text(fit)}",
-             f"in {fit.now} slots: {fit.refused} refused, {fit.denied} denied, {fit.unreached} not reached, {fit.missed} windows missed",
-             *sentences.in_short(list(sentences.told(fit.script)))]
+    lines = [*top_lines(fit), *sentences.in_short(list(sentences.told(fit.script)))]
     if over := fit.overload():
         lines += [f"overloaded: in {over['slots']} slots the load is above the processors in use, first in slot {over['first']}",
-                  f"proved: they are asked for {over['units']} units too many in all, so no window is ever more than {over['late']} slots late in them"]
+                  f"by theorem: they are asked for {up(over['units'], fit.settings.base, 4)} quanta too many in all, "
+                  f"so no window is ever more than {over['late']} slots late in them"]
     if fit.is_proved_so_far():
-        lines.append("proved: in each slot stepped the load is within the processors in use, so no window is missed in them")
+        lines.append("by theorem: in each slot stepped the load is within the processors in use, so no window is missed in them")
     if fit.is_proved_for_later():
-        lines.append("proved: the processors in use carry the cap, so no window is missed later either, whatever joins, leaves or is delayed")
+        lines.append("by theorem: the processors in use carry the cap, so no window is missed later either, whatever joins, leaves or is delayed")
     if fit.tasks:
         table = [cells(fit, it) for it in fit.tasks]
         lines += ["", *in_columns([[*table[0]], *([*it.values()] for it in table)]), "", worst_text(fit)]

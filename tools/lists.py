@@ -104,6 +104,22 @@ def nanoseconds(text, unit):
 COLUMNS = {"task": "name", "wcet": "work", "cost": "work", "c": "work", "period": "every", "t": "every", "d": "deadline"}
 
 
+# The names of columns, in small letters.
+NAMES = {*COLUMNS, *COLUMNS.values(), "first", "early"}
+
+
+def name_columns(fields):
+    """Whether two of these fields, or more, name columns."""
+    return sum(it.strip(" \t").lower() in NAMES for it in fields) >= 2
+
+
+def is_list(records):
+    """Whether these are the records of a list of tasks: the first one names columns, or the parts of its one field do."""
+    for fields in records[:1]:
+        return name_columns(fields) or len(fields) == 1 and any(name_columns(fields[0].split(it)) for it in ";\t")
+    return False
+
+
 def places_of(fields):
     """The place, from 1, of each field of a plain line."""
     return [1 + sum(len(it) + 1 for it in fields[:place]) for place in range(len(fields))]

@@ -26,6 +26,7 @@ use Rattle.pf_verdict.specs.Verdict.{verdict_of}
 use Rattle.pf_verdict.specs.declared.verdict.Verdict.{Verdict}
 use Rattle.pf_verdict.specs.declared.verdict.Verdict.TheVariants.{Fits, FitsSoFar, DoesNotFit}
 use Rattle.pf_fit_command.specs.Items.{denied_array, missed_array, refused_array}
+use Rattle.pf_fit_command.specs.Joins.{joins_asked}
 
 -- of how many refused records lines are told, and whether all are told
 abbrev pub most_lines : FitFormat → ℕ
@@ -58,7 +59,7 @@ arrays_of seen r = record {
 -- the answer of what was seen at the end of the script of this file, whose records came to this
 abbrev pub fit_of : FitFormat → List ℕ → Titles → Seen → Recounted → List ℕ
 fit_of Text file titles seen r =
-    fit_text seen.state.plan.settings.base seen.state.now titles (findings_of seen r.refusals.commands)
+    fit_text (carried_of seen) (joins_asked seen) titles (findings_of seen r.refusals.commands)
     (lists_text file titles.names r.made r.refusals seen)
 fit_of Json file titles seen r = fit_json (carried_of seen) titles (findings_of seen r.refusals.commands) (arrays_of seen r)
 

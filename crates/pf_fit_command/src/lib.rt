@@ -4,4 +4,5 @@
 
 pub mod fit;
 mod items;
+mod joins;
 mod texts;

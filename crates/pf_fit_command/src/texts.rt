@@ -1,9 +1,10 @@
-ghost use Rattle.std.specs.Prelude.{◌≡◌, ◌≤◌, ℕ, List, All, IfOk};
+ghost use Rattle.std.specs.Prelude.{◌≡◌, ◌<◌, ◌≤◌, ◌^◌, ℕ, List, All, IfOk};
 ghost use Rattle.pf_verdict.specs.Findings.{findings_of};
 ghost use Rattle.pf_fit_command.specs.Fit.{arrays_of, carried_of, fit_of};
 ghost use Rattle.pf_vocabulary.specs.declared.options.fit_format.FitFormat.TheVariants.{Json, Text};
 
 use crate::items::{denied_array, missed_array, refused_array};
+use crate::joins::joins_asked;
 use pf_desk::snapshot::Snapshot;
 use pf_fit_text::arrays::Arrays;
 use pf_fit_text::carried::Carried;
@@ -54,6 +55,7 @@ fn text_of(
 ) -> Result<Vec<u8>, AllocError>
     requires found { findings.now ≡ findings_of snapshot.now recount.now.refusals.commands }
     requires periods { All (λ f. 1 ≤ f.period) findings.now.figures }
+    requires few { findings.now.units < 2 ^ 100 }
     ensures { IfOk result (λ text. text.items ≡ fit_of Text file.now titles.now snapshot.now recount.now) }
 {
     let listed = lists(
@@ -65,7 +67,8 @@ fn text_of(
         snapshot,
     )?;
     let carried = carried_of(snapshot);
-    fit_text(alloc, carried.base, carried.now, titles, findings, &listed)
+    let joins = joins_asked(snapshot);
+    fit_text(alloc, carried, joins, titles, findings, &listed)
 }
 
 /// The answer as JSON.
@@ -95,6 +98,7 @@ pub(crate) fn fit_of(
 ) -> Result<Vec<u8>, AllocError>
     requires found { findings.now ≡ findings_of snapshot.now recount.now.refusals.commands }
     requires periods { All (λ f. 1 ≤ f.period) findings.now.figures }
+    requires few { findings.now.units < 2 ^ 100 }
     ensures { IfOk result (λ text. text.items ≡ fit_of format file.now titles.now snapshot.now recount.now) }
 {
     match format {

@@ -1,2 +1,4 @@
 pub mod Listed
 pub mod Examples
+pub mod Places
+pub mod Pieces

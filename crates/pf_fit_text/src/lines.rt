@@ -1,6 +1,8 @@
-ghost use Rattle.std.specs.Prelude.{◌≡◌, ◌++◌, ◌≤◌, ◌<◌, ◌^◌, [], IfOk, OnOk};
-ghost use Rattle.pf_fit_text.specs.Lines.{above_line, counts_line, free_text, headline, is_proved_in, late_line, level_text, overload_text, proved_text, run_line, settings_line, slot_text, tightest_text, verdict_word};
+ghost use Rattle.std.specs.Prelude.{◌≡◌, ◌++◌, ◌≤◌, ◌<◌, ◌^◌, Some, IfOk, IfSome, OnOk, codes};
+ghost use Rattle.pf_text.specs.Columns.Decimals.{cut, up, with_places};
+ghost use Rattle.pf_fit_text.specs.Lines.{above_line, counts_first, counts_line, free_text, is_proved_in, joins_line, joins_text, judged_text, late_end, late_line, level_text, overload_text, proved_text, run_line, settings_line, slot_text, stepped_text, top_lines, verdict_word};
 
+use crate::carried::Carried;
 use crate::element::push_element;
 use pf_tally::level::Level;
 use pf_text::columns::decimals::push_up;
@@ -19,93 +21,219 @@ pub(crate) fn verdict_word(verdict: Verdict) -> &'static str
     }
 }
 
-/// Appends the units that a slot has left, or by how many it is asked for too much.
+/// Appends a number that counts parts of 1/10000, with 4 decimals.
+#[tactic(auto, using(crate::proofs::Places::four_places))]
+fn push_places(text: &mut Vec<u8>, parts: u128) -> Result<(), AllocError>
+    requires { parts < 2 ^ 112 }
+    ensures { OnOk result (text.new.items ≡ text.old.items ++ with_places 4 parts) }
+{
+    push_up(text, parts, 10_000, 4)
+}
+
+/// Appends how many quanta are free.
+fn push_left(text: &mut Vec<u8>, base: u64, units: u64) -> Result<(), AllocError>
+    requires { 1 ≤ base }
+    ensures { OnOk result (text.new.items ≡ text.old.items ++ (cut units base 4 ++ codes " free\n")) }
+{
+    push_places(text, u128::from(units) * 10_000 / u128::from(base))?;
+    push_element(text, " free\n")
+}
+
+/// Appends how many quanta are too much.
+fn push_excess(text: &mut Vec<u8>, base: u64, units: u64) -> Result<(), AllocError>
+    requires { 1 ≤ base }
+    ensures { OnOk result (text.new.items ≡ text.old.items ++ (up units base 4 ++ codes " too much\n")) }
+{
+    push_up(text, u128::from(units), u128::from(base), 4)?;
+    push_element(text, " too much\n")
+}
+
+/// Appends the quanta that a slot has left, or by how many it is asked for too much.
 #[tactic(auto, unfolding(crate::specs::Lines::free_text))]
-fn push_free(alloc: Global, text: &mut Vec<u8>, level: Level) -> Result<(), AllocError>
-    ensures { OnOk result (text.new.items ≡ text.old.items ++ free_text level) }
+fn push_free(text: &mut Vec<u8>, base: u64, level: Level) -> Result<(), AllocError>
+    requires { 1 ≤ base }
+    ensures { OnOk result (text.new.items ≡ text.old.items ++ free_text base level) }
 {
     if level.room < level.load {
-        let units = level.load - level.room;
-        push_element(text, &format!(in alloc; "{units} too many\n")?)
+        push_excess(text, base, level.load - level.room)
     } else {
-        let units = level.room - level.load;
-        push_element(text, &format!(in alloc; "{units} free\n")?)
+        push_left(text, base, level.room - level.load)
     }
 }
 
-/// Appends the processors of a slot, its number, its load and its room.
+/// Appends the processors of a slot, and its number.
 #[tactic(auto, unfolding(crate::specs::Lines::slot_text))]
 fn push_slot(alloc: Global, text: &mut Vec<u8>, base: u64, level: Level) -> Result<(), AllocError>
     requires { 1 ≤ base }
     ensures { OnOk result (text.new.items ≡ text.old.items ++ slot_text base level) }
 {
     let count = level.room / base;
-    let Level { slot, load, room } = level;
-    let words = format!(in alloc;
-        " of {count} processors in slot {slot} ({load} of {room} units), "
-    )?;
+    let slot = level.slot;
+    let words = format!(in alloc; " of {count} processors in slot {slot}, ")?;
     push_element(text, &words)
 }
 
-/// What a slot asks for, in processors and in units.
+/// What a slot asks for, in processors, and what it has left.
 #[tactic(auto, unfolding(crate::specs::Lines::level_text))]
 fn level_text(alloc: Global, base: u64, level: Level) -> Result<Vec<u8>, AllocError>
     requires { 1 ≤ base }
     ensures { IfOk result (λ text. text.items ≡ level_text base level) }
 {
     let mut text = Vec::new(alloc);
-    push_element(&mut text, ": ")?;
     push_up(&mut text, u128::from(level.load), u128::from(base), 4)?;
     push_slot(alloc, &mut text, base, level)?;
-    push_free(alloc, &mut text, level)?;
+    push_free(&mut text, base, level)?;
     Ok(text)
 }
 
-/// That of the tightest slot.
-fn tightest_text(alloc: Global, base: u64, tightest: Option<Level>) -> Result<Vec<u8>, AllocError>
-    requires { 1 ≤ base }
-    ensures { IfOk result (λ text. text.items ≡ tightest_text base tightest) }
+/// What all joins held ask for together, of so many processors.
+#[tactic(auto, unfolding(crate::specs::Lines::joins_line))]
+fn joins_line(alloc: Global, base: u64, processors: u32, joins: u128) -> Result<Vec<u8>, AllocError>
+    requires some { 1 ≤ base }
+    requires few { joins < 2 ^ 100 }
+    ensures { IfOk result (λ text. text.items ≡ joins_line base processors joins) }
 {
-    match tightest {
-        Some(level) => level_text(alloc, base, level),
-        None => Vec::from_slice(alloc, b": no slot was stepped\n"),
+    let words = format!(in alloc; " of {processors} processors\n")?;
+    let mut text = Vec::from_slice(alloc, b"all joins together: ")?;
+    push_up(&mut text, joins, u128::from(base), 4)?;
+    push_element(&mut text, &words)?;
+    Ok(text)
+}
+
+/// The same where it is asked for.
+fn joins_text(
+    alloc: Global,
+    base: u64,
+    processors: u32,
+    joins: Option<u128>,
+) -> Result<Vec<u8>, AllocError>
+    requires some { 1 ≤ base }
+    requires few { IfSome joins (λ j. j < 2 ^ 100) }
+    ensures { IfOk result (λ text. text.items ≡ joins_text base processors joins) }
+{
+    match joins {
+        Some(joins) => joins_line(alloc, base, processors, joins),
+        None => Ok(Vec::new(alloc)),
     }
 }
 
-/// The verdict, and the tightest slot.
-#[tactic(auto, unfolding(crate::specs::Lines::headline))]
-pub(crate) fn headline(
-    alloc: Global,
-    base: u64,
-    verdict: Verdict,
-    tightest: Option<Level>,
-) -> Result<Vec<u8>, AllocError>
-    requires { 1 ≤ base }
-    ensures { IfOk result (λ text. text.items ≡ headline base verdict tightest) }
+/// A text and another one behind it.
+fn joined(alloc: Global, first: &[u8], second: &[u8]) -> Result<Vec<u8>, AllocError>
+    ensures { IfOk result (λ text. text.items ≡ first.now ++ second.now) }
 {
-    let mut text = Vec::new(alloc);
-    push_element(&mut text, verdict_word(verdict))?;
-    text.extend_from_slice(&tightest_text(alloc, base, tightest)?)?;
+    let mut text = Vec::from_slice(alloc, first)?;
+    text.extend_from_slice(second)?;
     Ok(text)
 }
 
-/// Appends how many slots there were, and what was refused, denied, not reached and missed.
-#[tactic(auto, unfolding(crate::specs::Lines::counts_line))]
-pub(crate) fn push_counts(
+/// The counts, and then the tightest slot and what all joins ask for.
+#[tactic(auto, unfolding(crate::specs::Lines::counts_first))]
+fn counts_first(
     alloc: Global,
-    text: &mut Vec<u8>,
+    counts: &[u8],
+    tightest: &[u8],
+    joins: &[u8],
+) -> Result<Vec<u8>, AllocError>
+    ensures { IfOk result (λ text. text.items ≡ counts_first counts.now tightest.now joins.now) }
+{
+    let mut text = Vec::from_slice(alloc, counts)?;
+    push_element(&mut text, "tightest: ")?;
+    text.extend_from_slice(tightest)?;
+    text.extend_from_slice(joins)?;
+    Ok(text)
+}
+
+/// The tightest slot, and then the counts; the counts first where it does not fit.
+fn stepped_text(
+    alloc: Global,
+    verdict: Verdict,
+    counts: &[u8],
+    tightest: &[u8],
+    joins: &[u8],
+) -> Result<Vec<u8>, AllocError>
+    ensures { IfOk result (λ text. text.items ≡ stepped_text verdict counts.now tightest.now joins.now) }
+{
+    match verdict {
+        Verdict::Fits | Verdict::FitsSoFar => joined(alloc, tightest, counts),
+        Verdict::DoesNotFit => counts_first(alloc, counts, tightest, joins),
+    }
+}
+
+/// That of this slot.
+fn level_lines(
+    alloc: Global,
+    carried: Carried,
+    joins: Option<u128>,
+    verdict: Verdict,
+    counts: &[u8],
+    level: Level,
+) -> Result<Vec<u8>, AllocError>
+    requires some { 1 ≤ carried.base }
+    requires few { IfSome joins (λ j. j < 2 ^ 100) }
+    ensures { IfOk result (λ text. text.items ≡ judged_text carried joins verdict counts.now (Some level)) }
+{
+    let tightest = level_text(alloc, carried.base, level)?;
+    let joins = joins_text(alloc, carried.base, carried.processors, joins)?;
+    stepped_text(alloc, verdict, counts, &tightest, &joins)
+}
+
+/// The same where no slot may have been stepped.
+fn judged_text(
+    alloc: Global,
+    carried: Carried,
+    joins: Option<u128>,
+    verdict: Verdict,
+    counts: &[u8],
+    tightest: Option<Level>,
+) -> Result<Vec<u8>, AllocError>
+    requires some { 1 ≤ carried.base }
+    requires few { IfSome joins (λ j. j < 2 ^ 100) }
+    ensures { IfOk result (λ text. text.items ≡ judged_text carried joins verdict counts.now tightest) }
+{
+    match tightest {
+        Some(level) => level_lines(alloc, carried, joins, verdict, counts, level),
+        None => joined(alloc, b"no slot was stepped\n", counts),
+    }
+}
+
+/// The verdict, the tightest slot and the counts.
+#[tactic(auto, unfolding(crate::specs::Lines::top_lines))]
+pub(crate) fn top_lines(
+    alloc: Global,
+    carried: Carried,
+    joins: Option<u128>,
+    verdict: Verdict,
+    counts: &[u8],
+    tightest: Option<Level>,
+) -> Result<Vec<u8>, AllocError>
+    requires some { 1 ≤ carried.base }
+    requires few { IfSome joins (λ j. j < 2 ^ 100) }
+    ensures { IfOk result (λ text. text.items ≡ top_lines carried joins verdict counts.now tightest) }
+{
+    let judged = judged_text(alloc, carried, joins, verdict, counts, tightest)?;
+    let mut text = Vec::new(alloc);
+    push_element(&mut text, verdict_word(verdict))?;
+    push_element(&mut text, ": ")?;
+    text.extend_from_slice(&judged)?;
+    Ok(text)
+}
+
+/// How many slots there were, and what was refused, denied, not reached and missed.
+#[tactic(auto, unfolding(crate::specs::Lines::counts_line))]
+pub(crate) fn counts_line(
+    alloc: Global,
     now: u64,
     refused: u64,
     denied: u64,
     unreached: u64,
     missed: u128,
-) -> Result<(), AllocError>
-    ensures { OnOk result (text.new.items ≡ text.old.items ++ counts_line now refused denied unreached missed) }
+) -> Result<Vec<u8>, AllocError>
+    ensures { IfOk result (λ text. text.items ≡ counts_line now refused denied unreached missed) }
 {
     let line = format!(in alloc;
         "in {now} slots: {refused} refused, {denied} denied, {unreached} not reached, {missed} windows missed\n"
     )?;
-    push_element(text, &line)
+    Ok(line.into_bytes())
 }
 
 /// Appends how many slots ask for more than their processors, and the first.
@@ -119,17 +247,29 @@ fn push_above(alloc: Global, text: &mut Vec<u8>, above: u64, first: u64) -> Resu
     push_element(text, &line)
 }
 
+/// Appends how many slots late a window can be.
+#[tactic(auto, unfolding(crate::specs::Lines::late_end))]
+fn push_late_end(alloc: Global, text: &mut Vec<u8>, late: u128) -> Result<(), AllocError>
+    ensures { OnOk result (text.new.items ≡ text.old.items ++ late_end late) }
+{
+    let words = format!(in alloc;
+        " quanta too many in all, so no window is ever more than {late} slots late in them\n"
+    )?;
+    push_element(text, &words)
+}
+
 /// Appends by how much, and how late it can have made a window.
 #[tactic(auto, unfolding(crate::specs::Lines::late_line))]
 fn push_late(alloc: Global, text: &mut Vec<u8>, base: u64, units: u128) -> Result<(), AllocError>
-    requires { 1 ≤ base }
+    requires some { 1 ≤ base }
+    requires few { units < 2 ^ 100 }
     ensures { OnOk result (text.new.items ≡ text.old.items ++ late_line base units) }
 {
-    let late = units / u128::from(base);
-    let line = format!(in alloc;
-        "proved: they are asked for {units} units too many in all, so no window is ever more than {late} slots late in them\n"
-    )?;
-    push_element(text, &line)
+    let base = u128::from(base);
+    let late = units / base;
+    push_element(text, "by theorem: they are asked for ")?;
+    push_up(text, units, base, 4)?;
+    push_late_end(alloc, text, late)
 }
 
 /// What is told of an overload, where there is one.
@@ -140,7 +280,8 @@ pub(crate) fn overload_text(
     above: u64,
     units: u128,
 ) -> Result<Vec<u8>, AllocError>
-    requires { 1 ≤ base }
+    requires some { 1 ≤ base }
+    requires few { units < 2 ^ 100 }
     ensures { IfOk result (λ text. text.items ≡ overload_text base first above units) }
 {
     let mut text = Vec::new(alloc);
@@ -158,7 +299,7 @@ fn push_run(text: &mut Vec<u8>) -> Result<(), AllocError>
 {
     push_element(
         text,
-        "proved: in each slot stepped the load is within the processors in use, so no window is missed in them\n",
+        "by theorem: in each slot stepped the load is within the processors in use, so no window is missed in them\n",
     )
 }
 
@@ -169,7 +310,7 @@ fn push_settings(text: &mut Vec<u8>) -> Result<(), AllocError>
 {
     push_element(
         text,
-        "proved: the processors in use carry the cap, so no window is missed later either, whatever joins, leaves or is delayed\n",
+        "by theorem: the processors in use carry the cap, so no window is missed later either, whatever joins, leaves or is delayed\n",
     )
 }
 

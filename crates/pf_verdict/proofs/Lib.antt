@@ -4,6 +4,7 @@ pub mod Strained
 pub mod Least
 pub mod Greatest
 pub mod Grown
+pub mod Few
 pub mod Found
 pub mod Rooms
 pub mod Tightest

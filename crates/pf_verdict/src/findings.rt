@@ -1,4 +1,4 @@
-ghost use Rattle.std.specs.Prelude.{◌≡◌, ◌≤◌, ◌*◌, true, [], All, IfOk};
+ghost use Rattle.std.specs.Prelude.{◌≡◌, ◌≤◌, ◌<◌, ◌*◌, ◌^◌, true, [], All, IfOk};
 ghost use Rattle.pf_run.specs.Computed.{run_of};
 ghost use Rattle.pf_tally.specs.Misses.{misses_of};
 ghost use Rattle.pf_tally.specs.Room.{MissesNone};
@@ -59,7 +59,8 @@ impl Model for Findings {
 
 /// What is found of a snapshot of a history in which so many commands were refused. Where the verdict is `Fits`, or no slot
 /// asked for more than its processors, no window was missed; where the processors carry the cap none is missed later either;
-/// and no task was tardy by more slots than the overload has quanta, nor is a window that was not served yet.
+/// and no task was tardy by more slots than the overload has quanta, nor is a window that was not served yet. The overload has
+/// fewer units than 2^100.
 ///
 /// # Errors
 ///
@@ -72,6 +73,7 @@ pub fn find(alloc: Global, snapshot: &Snapshot, refused: u64) -> Result<Findings
     ensures late { IfOk result (λ f. All (λ g. snapshot.now.state.plan.settings.base * g.tardiness ≤ f.units) f.figures) }
     ensures overdue { IfOk result (λ f. NoneIsLater snapshot.now.state.plan (run_of snapshot.now.state.plan snapshot.now.state.now) snapshot.now.state.now f.units) }
     ensures periods { IfOk result (λ f. All (λ g. 1 ≤ g.period) f.figures) }
+    ensures few { IfOk result (λ f. f.units < 2 ^ 100) }
 {
     let scenario = snapshot.scenario();
     let now = snapshot.now();

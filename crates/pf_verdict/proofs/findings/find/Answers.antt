@@ -1,4 +1,4 @@
-use Rattle.std.proofs.Common.{◌≡◌, ◌∙◌, ◌*◌, ◌≤◌, ap, ap₂, sym, subst, length, sum_by, List, All}
+use Rattle.std.proofs.Common.{◌≡◌, ◌∙◌, ◌*◌, ◌<◌, ◌≤◌, ◌^◌, ap, ap₂, sym, subst, length, sum_by, List, All}
 use Rattle.pf_run.specs.Computed.{run_of}
 use Rattle.pf_tally.specs.declared.figures.Figures.{Figures}
 use Rattle.pf_laws.specs.Promise.FitLaws.{IsFitOf}
@@ -12,6 +12,7 @@ use Rattle.pf_verdict.specs.declared.strain.Strain.{Strain}
 use Rattle.pf_verdict.specs.declared.stretch.Stretch.{Stretch}
 use Rattle.pf_verdict.specs.declared.totals.Totals.{Totals}
 use Rattle.pf_verdict.specs.declared.verdict.Grounds.{Grounds}
+use Rattle.pf_verdict.proofs.Few.{few_units}
 use Rattle.pf_verdict.proofs.Found.{fits_settled, none_above, none_later}
 use Rattle.pf_verdict.proofs.Periods.{periods}
 use Rattle.pf_verdict.proofs.findings.find.Goals as goal
@@ -102,3 +103,7 @@ pub returns-clause-periods : goal.returns-clause-periods
 returns-clause-periods c =
     subst (λ (fs : List Figures). All (λ (g : Figures). 1 ≤ g.period) fs) (sym c.in_ok-figures.ensures)
     (periods c.args.snapshot.now c.now-now.ensures.of_run)
+
+pub returns-clause-few : goal.returns-clause-few
+returns-clause-few c =
+    subst (λ units. units < 2 ^ 100) (sym c.in_ok-fit.ensures.overload) (few_units c.args.snapshot.now c.now-now.ensures.of_run)
