@@ -1,6 +1,7 @@
 mod Growing
+mod Joined
 mod Pairs
 mod Reading
 pub mod Unasked
 mod Worked
-pub mod TipsLemmas
+pub mod HintsLemmas

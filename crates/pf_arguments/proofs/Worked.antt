@@ -3,7 +3,9 @@ use Rattle.std.proofs.Common.{refl, inl, inr}
 use Rattle.clap.proofs.OnLiterals.{clap_on_literals}
 use Rattle.clap.specs.declared.error.kind.ErrorKind.TheVariants as kind
 use Rattle.pf_arguments.specs.CommandLine.{kinds_of}
-use Rattle.pf_arguments.specs.Help.{help_hint, lesson_named, topic_asked, topic_named}
+use Rattle.pf_arguments.specs.Help.{lesson_named, topic_asked, topic_named}
+use Rattle.pf_arguments.specs.Mistakes.Hints.{format_like}
+use Rattle.pf_text.specs.Quoted.{quoted}
 use Rattle.pf_arguments.specs.Asked.{IsShown, task_asked, pair_asked, desk_asked, file_asked, telling_asked}
 use Rattle.pf_vocabulary.specs.Names.Text.{is_text}
 use Rattle.pf_text.specs.Numbers.{number_of}
@@ -12,7 +14,7 @@ use Rattle.pf_convert.specs.List.Times.{blanks_length, few_digits, number_in, nu
 use Rattle.pf_convert.specs.Words.Fits.{fit_of}
 use Rattle.pf_convert.specs.Words.Reading.{arrivals_named, conversion_of, first_not_above, format_named, has_quantum, quanta_from, words_from}
 use Rattle.pf_vocabulary.specs.TaskWords.Reading.{with_items}
-use Rattle.pf_arguments.specs.Examples.{Runs, Ranged, Pictured, Styled, Listed, FailingRuns, Files, Drilled, Differences, Compared, Conversions, Reasons, Fitting, Desks, Helped, Told, Showable, WorkedWords}
+use Rattle.pf_arguments.specs.Examples.{Runs, Ranged, Pictured, Styled, Listed, FailingRuns, Files, Drilled, Differences, Compared, Conversions, Reasons, Fitting, Desks, Helped, Told, Mistaken, Showable, WorkedWords}
 
 runs : Runs
 unfolding clap_on_literals kinds_of topic_asked task_asked
@@ -233,7 +235,7 @@ subcommand_is_not_shown (inl help) = cc
 subcommand_is_not_shown (inr version) = cc
 
 helped : Helped
-unfolding clap_on_literals kinds_of topic_asked topic_named lesson_named help_hint
+unfolding clap_on_literals kinds_of topic_asked topic_named lesson_named
 helped = record {
   plan = refl;
   status = refl;
@@ -264,6 +266,24 @@ told = record {
   of_a_check = (kind.UnknownArgument, unknown_is_not_shown, inl refl, refl);
 }
 
+mistaken : Mistaken
+unfolding clap_on_literals kinds_of quoted format_like number_of with_items is_text
+mistaken = record {
+  cell = refl;
+  short = refl;
+  format = refl;
+  end = refl;
+  like = refl;
+  quiet = refl;
+  slot = refl;
+  tasks = refl;
+  no_tasks = refl;
+  version = refl;
+  json = refl;
+  several = refl;
+  list = refl;
+}
+
 pub worked_words : WorkedWords
 unfolding clap_on_literals kinds_of topic_asked task_asked
 worked_words = record {
@@ -283,6 +303,7 @@ worked_words = record {
   desks = desks;
   helped = helped;
   told = told;
+  mistaken = mistaken;
   showable = showable;
   check = refl;
   check_run = refl;

@@ -1,5 +1,5 @@
 -- What the words ask for.
-use Rattle.std.specs.Prelude.{◌≡◌, ◌≢◌, ◌⊎◌, ℕ, Bool, false, not, ◌&&◌, ◌||◌, true, is_some, if◌then◌else◌, List, [], ◌++◌, Option, Some, None, option_map, Result, Ok, Err, codes, String, string_bytes, ⊤}
+use Rattle.std.specs.Prelude.{◌≡◌, ◌≢◌, ◌⊎◌, ℕ, Bool, false, not, ◌&&◌, ◌||◌, true, is_some, if◌then◌else◌, List, [], Option, Some, None, option_map, Result, Ok, Err, codes, String, string_bytes, ⊤}
 use Rattle.std.specs.Result.{result_ok, result_err}
 use Rattle.std.specs.Str.{bytes_eq}
 use Rattle.std.specs.declared.alloc.Global.{Global}
@@ -20,8 +20,7 @@ use Rattle.pf_arguments.specs.declared.mistake.Mistake.TheVariants.{UnknownForma
 use Rattle.pf_arguments.specs.declared.desk_words.DeskWords.{DeskWords}
 use Rattle.pf_arguments.specs.declared.script_pair.ScriptPair.{ScriptPair}
 use Rattle.pf_arguments.specs.declared.telling.Telling.{Telling}
-use Rattle.pf_arguments.specs.declared.choices.TheConstants.{RUN_FORMATS, TEXT_FORMATS}
-use Rattle.pf_arguments.specs.Choices.{IsChoiceNote}
+use Rattle.pf_arguments.specs.Mistakes.Told.{told_by}
 use Rattle.pf_vocabulary.specs.declared.options.slot_range.SlotRange.{SlotRange}
 use Rattle.pf_vocabulary.specs.TaskWords.Reading.{words_in}
 use Rattle.pf_vocabulary.specs.declared.task_words.task_word.TaskWord.{TaskWord}
@@ -38,12 +37,11 @@ use Rattle.pf_arguments.specs.Diffs.{PairNames, are_two, diff_of, options_of, pa
 use Rattle.pf_vocabulary.specs.Options.FailLists.{fail_on_named, on_nothing}
 use Rattle.pf_vocabulary.specs.Options.Formats.{format_named, format_with_cell, format_with_style, format_with_wrap, format_within}
 use Rattle.pf_arguments.specs.Help.{topic_asked}
-use Rattle.pf_arguments.specs.Texts.{EndsWithLesson, IsRefusal, fixed_line, version_line}
+use Rattle.pf_arguments.specs.Texts.{EndsWithLesson, IsRefusal, version_line}
 use Rattle.pf_arguments.specs.CommandLine.{any_behind, any_flag, file_behind, has_flag, is_check, is_convert, is_desk, is_diff, is_drill, is_fit, is_why, kinds_of, program, text_behind, text_behind_run}
 use Rattle.pf_text.specs.Numbers.{number_of}
 use Rattle.pf_vocabulary.specs.Questions.Reading.{question_of}
 use Rattle.pf_vocabulary.specs.declared.questions.mistake.WhyMistake.{WhyMistake}
-use Rattle.pf_vocabulary.specs.declared.questions.mistake.WhyMistake.TheVariants as asking
 use Rattle.pf_vocabulary.specs.declared.questions.question.Question.{Question}
 use Rattle.pf_convert.specs.Words.Reading.{ConvertTexts, IsConversion, conversion_of}
 use Rattle.pf_convert.specs.Words.Fits.{fit_of}
@@ -310,21 +308,13 @@ telling_of found = record {
   prompt = not (any_flag (codes "quiet") found) && not (is_some (file_behind found)) && not (is_desk found);
 }
 
--- the names that the text of `--format` is none of, where that is the mistake
-abbrev pub choices_of : Mistake → Option Text
-choices_of UnknownFormat = Some RUN_FORMATS.now
-choices_of (why.Why asking.Format) = Some TEXT_FORMATS.now
-choices_of mistake = None
+-- what is told of words that the grammar takes, but that ask for nothing
+abbrev pub mistake_told : Option (Text × List Row) → Mistake → List ℕ
+mistake_told found (why.Convert mistake) = convert_mistake_text (convert_texts found) mistake
+mistake_told found mistake = told_by (telling_of found) found mistake
 
--- what is told of words that the grammar takes, but that ask for nothing, before such names
-abbrev pub mistake_line : Option (Text × List Row) → Mistake → List ℕ
-mistake_line found (why.Convert mistake) = convert_mistake_text (convert_texts found) mistake
-mistake_line found mistake = fixed_line mistake
-
--- what is told of a mistake: its line, and where notes are told, these names
 abbrev pub IsMistakeText : Option (Text × List Row) → Mistake → List ℕ → Type 0
-IsMistakeText found mistake text =
-    (note : List ℕ) × IsChoiceNote (if (telling_of found).notes then choices_of mistake else None) note × (text ≡ mistake_line found mistake ++ note)
+IsMistakeText found mistake text = text ≡ mistake_told found mistake
 
 -- the two scripts that are to be compared
 abbrev pub pair_of : Option (Text × List Row) → Result PairNames Mistake

@@ -23,25 +23,28 @@ use Rattle.pf_vocabulary.specs.declared.questions.task_asked.TaskAsked.TheVarian
 use Rattle.pf_arguments.specs.declared.mistake.Mistake.TheVariants.{UnknownFormat, BadNumber, NoRange, Unranged, BadCell, NoCell, BadWrap, NoWrap, BadStyle, NoStyle, BadTasks, NoTasks, BadFailOn, BadSince, SinceOfTwo, InputTwice}
 use Rattle.pf_vocabulary.specs.declared.options.slot_range.SlotRange.{SlotRange}
 use Rattle.pf_vocabulary.specs.declared.fault.range_fault.RangeFault.TheVariants.{NotWithin, TooLong}
-use Rattle.clap.specs.Words.{Text}
+use Rattle.clap.specs.Words.{Text, subcommand_of}
+use Rattle.pf_arguments.specs.CommandLine.{program}
 use Rattle.pf_arguments.specs.Desks.{DeskNames}
+use Rattle.pf_arguments.specs.declared.mistake.Mistake.{Mistake}
 use Rattle.pf_arguments.specs.Diffs.{PairNames}
 use Rattle.pf_vocabulary.specs.Options.FailLists.{on_nothing}
 use Rattle.pf_vocabulary.specs.Options.Formats.{range_fault}
 use Rattle.pf_vocabulary.specs.Options.Ranges.{whole}
-use Rattle.pf_vocabulary.specs.declared.tasks.task_range.TaskRange.{TaskRange}
 use Rattle.pf_vocabulary.specs.declared.task_words.task_word.TaskWord.{TaskWord}
 use Rattle.pf_vocabulary.specs.declared.task_words.task_word.TaskWord.TheVariants as listed
 use Rattle.pf_arguments.specs.declared.telling.Telling.{Telling}
 use Rattle.pf_arguments.specs.declared.task.Task.TheVariants.{Run, RunTasks, Check, CheckRun, Diff, Drill, Convert, Fit, Why}
 use Rattle.pf_vocabulary.specs.declared.options.fit_format.FitFormat.TheVariants.{Text as FitText, Json as FitJson}
 use Rattle.pf_vocabulary.specs.declared.options.diff_options.DiffOptions.{DiffOptions}
-use Rattle.pf_arguments.specs.Help.{help_hint, lesson_of, topic_asked}
+use Rattle.pf_arguments.specs.Help.{lesson_of, topic_asked}
+use Rattle.pf_arguments.specs.Hints.Refused.{refused_hint}
+use Rattle.pf_arguments.specs.Mistakes.Hints.{tasks_hint}
 use Rattle.pf_arguments.specs.declared.lessons.program.TheConstants.{PROGRAM}
 use Rattle.pf_arguments.specs.declared.lessons.run.TheConstants.{RUN}
 use Rattle.pf_arguments.specs.declared.topics.plan.TheConstants.{PLAN}
 use Rattle.pf_arguments.specs.declared.topics.status.TheConstants.{STATUS}
-use Rattle.pf_arguments.specs.Asked.{task_asked, pair_asked, desk_asked, file_asked, telling_asked, reads_input, AsksHelp, AsksVersion, IsRefused, AreMistaken}
+use Rattle.pf_arguments.specs.Asked.{task_asked, pair_asked, desk_asked, file_asked, telling_asked, reads_input, mistake_told, AsksHelp, AsksVersion, IsRefused, AreMistaken}
 
 -- words that ask for a run
 pub record Runs : Type 0 where
@@ -310,7 +313,7 @@ pub record Helped : Type 0 where
   pub more : IsRefused (codes "help" ∷ codes "plan" ∷ codes "plan" ∷ [])
   pub alone : IsRefused (codes "plan" ∷ [])
   -- a hint is for `help` alone
-  pub no_hint : help_hint (codes "run" ∷ codes "rn" ∷ []) ≡ []
+  pub no_hint : refused_hint (codes "run" ∷ codes "rn" ∷ []) ≡ []
 
 -- what words ask to be told
 abbrev pub tells : Bool → Bool → Bool → Telling
@@ -330,6 +333,33 @@ pub record Told : Type 0 where
   -- two commands without these flags
   pub of_a_fit : IsRefused (codes "fit" ∷ codes "--notes" ∷ [])
   pub of_a_check : IsRefused (codes "check" ∷ codes "--notes" ∷ [])
+
+-- what is told of these words, where they have this mistake
+abbrev pub told_of : List Text → Mistake → List ℕ
+told_of words mistake = mistake_told (subcommand_of program words) mistake
+
+pub record Mistaken : Type 0 where
+  -- a whole message has the value, a short one does not; of a script of standard input it is short
+  pub cell : told_of (codes "run" ∷ codes "-f" ∷ codes "svg" ∷ codes "--cell" ∷ codes "5" ∷ codes "plan.csv" ∷ []) BadCell
+      ≡ codes "--cell takes a number of 6 to 40, not \"5\"\n"
+  pub short : told_of (codes "run" ∷ codes "-f" ∷ codes "svg" ∷ codes "--cell" ∷ codes "5" ∷ []) BadCell ≡ codes "--cell takes a number of 6 to 40\n"
+  -- the format in use, and the end that is no number
+  pub format : told_of (codes "run" ∷ codes "--task" ∷ codes "1" ∷ codes "plan.csv" ∷ []) NoTasks
+      ≡ codes "--task is for the formats windows, jobs, quanta, stats, lags, misses, chart and svg, not \"tables\"\n"
+  pub end : told_of (codes "run" ∷ codes "-f" ∷ codes "chart" ∷ codes "--from" ∷ codes "1" ∷ codes "--to" ∷ codes "x" ∷ codes "plan.csv" ∷ []) BadNumber
+      ≡ codes "--from and --to take a number of 1 to 15 digits, not \"x\"\n"
+  -- a hint, and none where notes are not told
+  pub like : told_of (codes "run" ∷ codes "-f" ∷ codes "png" ∷ codes "plan.csv" ∷ []) UnknownFormat
+      ≡ codes "unknown format \"png\"\n  hint: svg, of which rsvg-convert makes a PNG\n"
+  pub quiet : told_of (codes "run" ∷ codes "-q" ∷ codes "-f" ∷ codes "png" ∷ codes "plan.csv" ∷ []) UnknownFormat ≡ codes "unknown format \"png\"\n"
+  pub slot : told_of (codes "why" ∷ codes "x" ∷ []) (why.Why asking.Slot) ≡ codes "SLOT is a number of 1 to 15 digits, not \"x\"\n"
+  pub tasks : tasks_hint (codes "3-1, 7") ≡ codes "1-3,7"
+  pub no_tasks : tasks_hint (codes "1;2") ≡ []
+  -- of words that the grammar does not take
+  pub version : refused_hint (codes "check" ∷ codes "-V" ∷ []) ≡ codes "pfair --version"
+  pub json : refused_hint (codes "why" ∷ codes "--json" ∷ codes "3" ∷ []) ≡ codes "-f json"
+  pub several : refused_hint (codes "run" ∷ codes "a.csv" ∷ codes "b.csv" ∷ codes "c.csv" ∷ []) ≡ codes "run takes one file"
+  pub list : refused_hint (codes "check" ∷ codes "--unit=s" ∷ codes "plan.csv" ∷ []) ≡ codes "--unit is a word of pfair fit and pfair convert"
 
 -- what can be shown of so many slots
 pub record Showable : Type 0 where
@@ -357,6 +387,7 @@ pub record WorkedWords : Type 0 where
   pub desks : Desks
   pub helped : Helped
   pub told : Told
+  pub mistaken : Mistaken
   pub showable : Showable
   pub check : task_asked (codes "check" ∷ []) ≡ Some Check
   pub check_run : task_asked (codes "check" ∷ codes "--run" ∷ codes "plan.csv" ∷ []) ≡ Some CheckRun

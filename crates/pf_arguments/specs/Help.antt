@@ -1,8 +1,7 @@
--- What help tells: the lesson of a command, a topic, and a hint where a word is neither.
+-- What help tells: the lesson of a command, a topic, and which of them a word that is neither may mean.
 use Rattle.std.specs.Prelude.{ℕ, if◌then◌else◌, List, [], ◌∷◌, ◌++◌, Option, None, Some, codes}
 use Rattle.std.specs.Str.{bytes_eq}
 use Rattle.clap.specs.Words.{Text}
-use Rattle.pf_message.specs.Form.{hint_line}
 use Rattle.pf_message.specs.Nearness.{near_name}
 use Rattle.pf_arguments.specs.declared.lessons.check.TheConstants.{CHECK}
 use Rattle.pf_arguments.specs.declared.lessons.convert.TheConstants.{CONVERT}
@@ -72,7 +71,3 @@ help_near (Some name) = codes "pfair help " ++ name
 
 abbrev pub help_meant : Text → List ℕ
 help_meant word = help_near (near_name word help_names)
-
--- the hint where the word after `help` is none of them
-unfoldable pub help_hint : List Text → List ℕ
-help_hint words = behind_help (λ word. hint_line (help_meant word)) [] words

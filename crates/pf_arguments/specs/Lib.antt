@@ -1,12 +1,12 @@
 pub mod Asked
-pub mod Choices
 pub mod CommandLine
 pub mod Desks
 pub mod Diffs
 pub mod Examples
 pub mod Help
+pub mod Hints
 pub mod Lines
+pub mod Mistakes
 pub mod Outputs
 pub mod Rows
 pub mod Texts
-pub mod Tips

@@ -3,8 +3,8 @@ ghost use Rattle.clap.specs.Words.{subcommand_rows_of};
 ghost use Rattle.pf_arguments.specs.Asked.{IsPair, IsSound, file_found, file_of, name_of, pair_of};
 ghost use Rattle.pf_arguments.specs.Diffs.{are_two, diff_of, options_of, pair_named, second_behind, since_of};
 
-use crate::choices::mistake_text;
 use crate::mistake::Mistake;
+use crate::mistakes::text::mistake_text;
 use crate::request::WordsFault;
 use crate::script_pair::ScriptPair;
 use crate::task::Task;

@@ -4,18 +4,18 @@
 #![tactic(auto)]
 
 mod argument;
-pub mod choices;
 mod command_line;
 mod conversion_words;
 pub mod desk_words;
 mod diff_words;
 mod fit_words;
 mod form;
-mod help_hint;
+mod hints;
 pub mod laws;
 pub mod lessons;
 mod lines;
 pub mod mistake;
+mod mistakes;
 pub mod output_words;
 pub mod request;
 mod run_words;
@@ -26,7 +26,6 @@ pub mod task;
 pub mod telling;
 mod telling_words;
 pub mod texts;
-pub mod tips;
 pub mod topics;
 mod why_question;
 pub mod words;

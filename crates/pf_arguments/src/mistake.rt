@@ -1,5 +1,5 @@
 ghost use Rattle.std.specs.Prelude.{◌≡◌};
-ghost use Rattle.pf_arguments.specs.Texts.{fixed_line};
+ghost use Rattle.pf_arguments.specs.Mistakes.Told.{before_value, mistake_words, whole_words};
 
 use pf_convert::words::mistake::ConvertMistake;
 use pf_vocabulary::questions::mistake::WhyMistake;
@@ -46,35 +46,55 @@ pub enum Mistake {
 }
 
 impl Mistake {
-    /// The line of a mistake that always has the same one; nothing for any other.
-    pub(crate) fn fixed_line(self) -> &'static str
-        ensures { result.now ≡ fixed_line self }
+    /// The words of a short message, without a line end; those of a conversion have their own.
+    pub(crate) fn words(self) -> &'static str
+        ensures { result.now ≡ mistake_words self }
     {
         match self {
-            Mistake::UnknownFormat => "unknown format\n",
-            Mistake::BadNumber => "--from and --to take a number of 1 to 15 digits\n",
-            Mistake::NoRange => "--from and --to are for the formats schedule, chart and svg\n",
+            Mistake::UnknownFormat => "unknown format",
+            Mistake::BadNumber => "--from and --to take a number of 1 to 15 digits",
+            Mistake::NoRange => "--from and --to are for the formats schedule, chart and svg",
             Mistake::Unranged => {
-                "--from and --to are for the formats schedule, chart, svg, windows, load and quanta\n"
+                "--from and --to are for the formats schedule, chart, svg, windows, load and quanta"
             }
-            Mistake::BadCell => "--cell takes a number of 6 to 40\n",
-            Mistake::NoCell => "--cell is for the format svg\n",
-            Mistake::BadWrap => "--wrap takes a number of 1 to 4096\n",
-            Mistake::NoWrap => "--wrap is for the format svg\n",
-            Mistake::BadStyle => "--style takes strips or stairs\n",
-            Mistake::NoStyle => "--style is for the format svg\n",
+            Mistake::BadCell => "--cell takes a number of 6 to 40",
+            Mistake::NoCell => "--cell is for the format svg",
+            Mistake::BadWrap => "--wrap takes a number of 1 to 4096",
+            Mistake::NoWrap => "--wrap is for the format svg",
+            Mistake::BadStyle => "--style takes strips or stairs",
+            Mistake::NoStyle => "--style is for the format svg",
             Mistake::BadTasks => {
-                "--task takes task numbers of 1 to 4095, ranges of them and names, joined by commas\n"
+                "--task takes task numbers of 1 to 4095, ranges of them and names, joined by commas"
             }
             Mistake::NoTasks => {
-                "--task is for the formats windows, jobs, quanta, stats, lags, misses, chart and svg\n"
+                "--task is for the formats windows, jobs, quanta, stats, lags, misses, chart and svg"
             }
-            Mistake::BadFailOn => "--fail-on takes refused, denied and missed, joined by commas\n",
-            Mistake::BadSince => "--since takes a number of 1 to 15 digits, from 1 on\n",
-            Mistake::SinceOfTwo => "--since is for one script\n",
-            Mistake::InputTwice => "standard input is read once\n",
+            Mistake::BadFailOn => "--fail-on takes refused, denied and missed, joined by commas",
+            Mistake::BadSince => "--since takes a number of 1 to 15 digits, from 1 on",
+            Mistake::SinceOfTwo => "--since is for one script",
+            Mistake::InputTwice => "standard input is read once",
             Mistake::Convert(_) => "",
-            Mistake::Why(mistake) => mistake.line(),
+            Mistake::Why(mistake) => mistake.words(),
+        }
+    }
+
+    /// The words of a whole message, before the value: they name all formats that have a range.
+    pub(crate) fn whole_words(self) -> &'static str
+        ensures { result.now ≡ whole_words self }
+    {
+        match self {
+            Mistake::NoRange => Mistake::Unranged.words(),
+            _ => self.words(),
+        }
+    }
+
+    /// What stands between these words and the value.
+    pub(crate) fn before_value(self) -> &'static str
+        ensures { result.now ≡ before_value self }
+    {
+        match self {
+            Mistake::UnknownFormat | Mistake::Why(WhyMistake::Format) => " ",
+            _ => ", not ",
         }
     }
 }

@@ -24,7 +24,7 @@ pub enum Request {
 /// Why the words ask for nothing.
 #[derive(Debug, Drop, Error)]
 pub enum WordsFault {
-    /// They are not the program's: the text says why, with a tip where one of them names a script.
+    /// They are not the program's: the text says why, with a hint where something would be right.
     #[error("the words are refused")]
     Refused(Vec<u8>),
     /// The grammar takes them, and they ask for nothing: what is told of that.

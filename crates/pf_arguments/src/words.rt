@@ -4,13 +4,13 @@ ghost use Rattle.pf_arguments.specs.CommandLine.{has_flag, is_named, text_behind
 ghost use Rattle.pf_arguments.specs.Help.{topic_asked};
 ghost use Rattle.pf_arguments.specs.Asked.{IsAsked, IsRequest, IsSound, IsSoundRequest, ShowsError, cell_given, check_of, fail_on_given, file_found, file_of, format_celled, format_found, format_of, format_wrapped, format_or_tables, name_of, number_given, range_given, range_mistake, style_given, task_of, wrap_given};
 
-use crate::choices::mistake_text;
 use crate::command_line::program;
 use crate::conversion_words::read_convert;
 use crate::desk_words::read_desk;
 use crate::diff_words::{are_two, read_diff, read_pair};
 use crate::fit_words::read_fit;
 use crate::mistake::Mistake;
+use crate::mistakes::text::mistake_text;
 use crate::request::{Request, WordsFault};
 use crate::run_words::read_run;
 use crate::task::Task;

@@ -13,11 +13,11 @@ use Rattle.pf_vocabulary.specs.declared.questions.question.WhyFormat.TheVariants
 use Rattle.pf_vocabulary.specs.declared.questions.task_asked.TaskAsked.{TaskAsked}
 use Rattle.pf_vocabulary.specs.declared.questions.task_asked.TaskAsked.TheVariants.{Number, Named}
 
--- what is told of it
-abbrev pub mistake_text : WhyMistake → List ℕ
-mistake_text mistake.Slot = codes "SLOT is a number of 1 to 15 digits\n"
-mistake_text mistake.Format = codes "unknown format\n"
-mistake_text mistake.Task = codes "--task takes a task number of 1 to 4095 or a name\n"
+-- what is told of it, without a line end
+abbrev pub mistake_words : WhyMistake → List ℕ
+mistake_words mistake.Slot = codes "SLOT is a number of 1 to 15 digits"
+mistake_words mistake.Format = codes "unknown format"
+mistake_words mistake.Task = codes "--task takes a task number of 1 to 4095 or a name"
 
 -- what is read, where it is there; else a mistake
 abbrev pub read_or : {X : Type 0} → WhyMistake → Option X → Result X WhyMistake

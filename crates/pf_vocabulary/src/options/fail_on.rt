@@ -40,8 +40,8 @@ impl FailOn {
     }
 }
 
-/// Whether it is a word that may stand in a list.
-fn is_word(word: &str) -> bool
+/// Whether it is a word that may stand in a list: `refused`, `denied` or `missed`.
+pub fn is_word(word: &str) -> bool
     ensures { result ≡ is_word_of_list word.now }
 {
     matches!(word, "refused" | "denied" | "missed")

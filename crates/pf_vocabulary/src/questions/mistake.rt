@@ -11,16 +11,16 @@ pub enum WhyMistake {
 
 impl WhyMistake {
     ghost use Rattle.std.specs.Prelude.{◌≡◌};
-    ghost use Rattle.pf_vocabulary.specs.Questions.Reading.{mistake_text};
+    ghost use Rattle.pf_vocabulary.specs.Questions.Reading.{mistake_words};
 
-    /// Its line.
-    pub fn line(self) -> &'static str
-        ensures { result.now ≡ mistake_text self }
+    /// What is told of it, without a line end.
+    pub fn words(self) -> &'static str
+        ensures { result.now ≡ mistake_words self }
     {
         match self {
-            WhyMistake::Slot => "SLOT is a number of 1 to 15 digits\n",
-            WhyMistake::Format => "unknown format\n",
-            WhyMistake::Task => "--task takes a task number of 1 to 4095 or a name\n",
+            WhyMistake::Slot => "SLOT is a number of 1 to 15 digits",
+            WhyMistake::Format => "unknown format",
+            WhyMistake::Task => "--task takes a task number of 1 to 4095 or a name",
         }
     }
 }

@@ -1,0 +1,3 @@
+pub mod Hints
+pub mod Told
+pub mod Values
