@@ -138,14 +138,22 @@ class Reading:
     def __init__(self, version):
         self.version, self.names, self.labels = version, {}, []
         self.is_begin, self.has_settings, self.has_slot, self.has_begun = True, False, False, False
+        self.number = 0
 
     def take(self, fields):
-        """Reads a record, or raises its Fault. A heading may stand behind bad records alone."""
-        if self.is_begin and fields[0] == ("plan" if self.version == PLAN else "pfair"):
+        """Reads a record, or raises its Fault."""
+        self.number += 1
+        if self.may_be_headed(fields):
             self.take_heading(fields)
         else:
             self.take_record(fields)
         self.is_begin = False
+
+    def may_be_headed(self, fields):
+        """Whether this record is read as the heading. One of a plan may stand after one with a fault, and else after bad records alone."""
+        if not self.is_begin or fields[0] != ("plan" if self.version == PLAN else "pfair"):
+            return False
+        return self.version != PLAN or self.number == 1 or self.number == 2 and fields == ["plan", "1"]
 
     def take_heading(self, fields):
         self.count(fields, 0, [])

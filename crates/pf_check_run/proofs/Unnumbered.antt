@@ -4,7 +4,7 @@ use Rattle.std.specs.Prelude.{⊤, IfErr, codes, if◌then◌else◌, is_some, n
 use Rattle.std.specs.Str.{bytes_eq}
 use Rattle.std.proofs.lemmas.List.{map-append}
 use Rattle.pf_script_run.specs.Carried.{Stops}
-use Rattle.pf_script.specs.PlanCheck.Checked.{bad_if, fault_shown, faults, faults_at_end, faults_from, faults_next, faults_of, first_fields, is_plan, with_fault}
+use Rattle.pf_script.specs.PlanCheck.Checked.{bad_if, fault_shown, faults, faults_at_end, faults_from, faults_next, faults_of, first_fields, is_plan, number_after, rows_after, with_fault}
 use Rattle.pf_script.specs.PlanCheck.Reports.{FaultShown}
 use Rattle.pf_vocabulary.specs.declared.fault.fault.Fault.{Fault}
 use Rattle.pf_vocabulary.specs.declared.fault.fault.Fault.TheVariants as why
@@ -232,10 +232,12 @@ good_from (row ∷ rows) p c number n end alike h =
 
 -- the heading is the first of them
 good_behind : (fault : Option RecordFault) (line end : ℕ) (fields : List (List ℕ)) (rows : List Row)
-    → with_fault at_heading (bad_if 1 line fault) fields (faults_from at_heading 2 end rows) ≡ [] → (plain_behind fault line end rows).bad ≡ None
+    → with_fault at_heading (bad_if 1 line fault) fields (faults_from at_heading (number_after fault rows) end (rows_after fault rows)) ≡ []
+    → (plain_behind fault line end rows).bad ≡ None
 good_behind None line end fields rows h = good_from rows at_heading start 2 2 end (record { labels = []; same = refl; names = refl }) h
 good_behind (Some fault) line end fields rows h =
-    let bad : fault_shown at_heading 1 (record { line = line; fields = fields }) fault ∷ faults_from at_heading 2 end rows ≡ [] = h in cc
+    let bad : fault_shown at_heading 1 (record { line = line; fields = fields }) fault
+    ∷ faults_from at_heading (number_after (Some fault) rows) end (rows_after (Some fault) rows) ≡ [] = h in cc
 
 good_of : (rs : List Row) (end : ℕ) (p : Plain) → plain_of end rs ≡ Some p → faults_of end rs ≡ [] → p.bad ≡ None
 good_of [] end p e h = let bad : None ≡ Some p = e in cc

@@ -1,8 +1,8 @@
 -- The messages of a plan, one record after another.
 use Rattle.std.proofs.Common.{◌≡◌, ◌≤◌, ◌+◌, ℕ, Bool, true, false, List, [], ◌∷◌, length, Option, None, Some, Result, Ok, Err, refl, arith}
-use Rattle.std.specs.Prelude.{nat_le}
+use Rattle.std.specs.Prelude.{if◌then◌else◌, nat_le}
 use Rattle.std.proofs.lemmas.Bool.Decides.{nat_tests}
-use Rattle.pf_script.specs.PlanCheck.Checked.{bad_if, faults, faults_at_end, faults_from, faults_next, faults_of, with_fault}
+use Rattle.pf_script.specs.PlanCheck.Checked.{bad_if, faults, faults_at_end, faults_from, faults_next, faults_of, is_right_heading, number_after, rows_after, with_fault}
 use Rattle.pf_script.specs.PlanCheck.Reports.{FaultShown}
 use Rattle.pf_text.specs.Rows.Rows.{Row, Table}
 use Rattle.pf_script.specs.declared.plan.fault.RecordFault.{RecordFault}
@@ -46,6 +46,16 @@ of_heading records line fields None more some rest t = rest t
 of_heading records line fields (Some fault) more some rest t =
     let low : nat_le 1 records ≡ true = grind (arith, nat_tests, some) in rw low (rest (told_one t))
 
+-- the rows after the heading are the others, but for a right one that is passed over
+counted_after : (fault : Option RecordFault) (rows : List Row) → number_after fault rows + length (rows_after fault rows) ≡ length rows + 2
+counted_after None rows = omega arith
+counted_after (Some fault) [] = omega arith
+counted_after (Some fault) (row ∷ rows) = by (is_right_heading row.fields)
+  where
+    by : (b : Bool) → (if b then 3 else 2) + length (if b then rows else row ∷ rows) ≡ length (row ∷ rows) + 2
+    by true = omega arith
+    by false = omega arith
+
 -- Use: all faults of a script.
 pub of_plan : (t : Table) → AreAll (length t.rows) (faults t)
 of_plan t = by t.rows
@@ -54,5 +64,8 @@ of_plan t = by t.rows
     by [] = λ telling. tt
     by (heading ∷ rows) =
         let records = length (heading ∷ rows) in
-        of_heading records heading.line heading.fields (heading_fault heading.fields) (faults_from at_heading 2 t.end rows) (omega arith)
-        (of_rows records 2 t.end rows at_heading (omega arith))
+        let fault = heading_fault heading.fields in
+        let number = number_after fault rows in
+        let left = rows_after fault rows in
+        of_heading records heading.line heading.fields fault (faults_from at_heading number t.end left) (omega arith)
+        (of_rows records number t.end left at_heading (omega (arith, counted_after fault rows)))

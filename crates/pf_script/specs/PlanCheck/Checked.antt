@@ -1,5 +1,5 @@
 -- The faults of a plan. Nothing is carried out: a label stands for no number.
-use Rattle.std.specs.Prelude.{ℕ, ◌+◌, Bool, Option, None, Some, Result, Ok, Err, List, [], ◌∷◌}
+use Rattle.std.specs.Prelude.{ℕ, ◌+◌, ◌&&◌, Bool, if◌then◌else◌, is_some, not, Option, None, Some, Result, Ok, Err, List, [], ◌∷◌}
 use Rattle.pf_text.specs.Rows.Rows.{Row, Table, rows}
 use Rattle.pf_script.specs.declared.plan.fault.BadRecord.{BadRecord}
 use Rattle.pf_script.specs.declared.plan.fault.RecordFault.{RecordFault}
@@ -39,11 +39,28 @@ abbrev pub with_fault : Progress → Option BadRecord → List (List ℕ) → Li
 with_fault p None fields faults = faults
 with_fault p (Some bad) fields faults = shown p bad fields ∷ faults
 
+-- a heading without a fault
+abbrev pub is_right_heading : List (List ℕ) → Bool
+is_right_heading fields = is_plan_heading fields && not (is_some (heading_fault fields))
+
+-- the rows after a heading: after one with a fault a right one is passed over too, as it stands for the other
+abbrev pub rows_after : Option RecordFault → List Row → List Row
+rows_after None rows = rows
+rows_after (Some fault) [] = []
+rows_after (Some fault) (row ∷ rows) = if is_right_heading row.fields then rows else row ∷ rows
+
+-- the number of the first of them
+abbrev pub number_after : Option RecordFault → List Row → ℕ
+number_after None rows = 2
+number_after (Some fault) [] = 2
+number_after (Some fault) (row ∷ rows) = if is_right_heading row.fields then 3 else 2
+
 -- the heading, which is the first row, and then the others
 abbrev pub faults_of : ℕ → List Row → List FaultShown
 faults_of end [] = []
 faults_of end (heading ∷ rows) =
-    with_fault at_heading (bad_if 1 heading.line (heading_fault heading.fields)) heading.fields (faults_from at_heading 2 end rows)
+    with_fault at_heading (bad_if 1 heading.line (heading_fault heading.fields)) heading.fields
+    (faults_from at_heading (number_after (heading_fault heading.fields) rows) end (rows_after (heading_fault heading.fields) rows))
 
 abbrev pub faults : Table → List FaultShown
 faults t = faults_of t.end t.rows
@@ -56,6 +73,12 @@ first_fields (row ∷ rows) = row.fields
 -- those of a script
 abbrev pub heading_of : List ℕ → List (List ℕ)
 heading_of script = first_fields (rows script).rows
+
+-- the rows after the second row, where that is a right heading after one with a fault
+abbrev pub after_second : Option BadRecord → ℕ → List Row → Option Table
+after_second (Some bad) end (heading ∷ row ∷ rows) =
+    if is_right_heading row.fields then Some (record { rows = rows; end = end }) else None
+after_second bad end rows = None
 
 -- whether these are the rows of a plan
 abbrev pub is_plan : Table → Bool

@@ -1,12 +1,13 @@
-ghost use Rattle.std.specs.Prelude.{◌≡◌, [], IfSome, OnOk};
+ghost use Rattle.std.specs.Prelude.{◌≡◌, [], IfOk, IfSome, OnOk};
 ghost use Rattle.csv.specs.Records.{fields_of};
 ghost use Rattle.pf_script.specs.Plan.Heading.{heading_fault};
 ghost use Rattle.pf_script.specs.Plan.Parsing.{end_fault};
-ghost use Rattle.pf_script.specs.PlanCheck.Checked.{bad_if, faults_at_end, heading_of, with_fault};
+ghost use Rattle.pf_script.specs.PlanCheck.Checked.{after_second, bad_if, faults_at_end, heading_of, is_right_heading, with_fault};
+ghost use Rattle.pf_text.specs.Rows.Rows.{rows};
 
 use crate::fields::Fields;
 use crate::plan::fault::BadRecord;
-use crate::plan::heading::heading_fault;
+use crate::plan::heading::{heading_fault, is_plan_heading};
 use crate::plan::state::Progress;
 use csv::ByteRecord;
 use pf_text::rows::rows::{NextRow, Rows};
@@ -67,7 +68,10 @@ impl<'a> PlanFaults<'a> {
         match rows.next(row)? {
             NextRow::Found(line) => {
                 let heading = bad_heading(&Fields::new(row), line);
-                Ok(PlanFaults::at(alloc, script, heading, rows, 1, false))
+                match rows_after_second(alloc, script, heading)? {
+                    Some(after) => Ok(PlanFaults::at(alloc, script, heading, after, 2, false)),
+                    None => Ok(PlanFaults::at(alloc, script, heading, rows, 1, false)),
+                }
             }
             NextRow::End(_) => {
                 row.clear();
@@ -172,6 +176,39 @@ fn bad_heading(heading: &Fields, line: u64) -> Option<BadRecord>
         line,
         fault,
     })
+}
+
+/// What is left of a script after its second record, where that is a right heading and stands after one with a fault.
+fn rows_after_second(
+    alloc: Global,
+    script: &[u8],
+    heading: Option<BadRecord>,
+) -> Result<Option<Rows<'_>>, AllocError>
+    ensures { IfOk result (λ after. after ≡ after_second heading (rows script.now).end (rows script.now).rows) }
+{
+    if heading.is_none() {
+        return Ok(None);
+    }
+    let mut rows = Rows::new(alloc, script);
+    let mut row = ByteRecord::new(alloc);
+    let NextRow::Found(_) = rows.next(&mut row)? else {
+        return Ok(None);
+    };
+    let NextRow::Found(_) = rows.next(&mut row)? else {
+        return Ok(None);
+    };
+    Ok(if is_right_heading(&Fields::new(&row)) {
+        Some(rows)
+    } else {
+        None
+    })
+}
+
+/// Whether a record is a heading without a fault.
+fn is_right_heading(fields: &Fields) -> bool
+    ensures { result ≡ is_right_heading fields.now }
+{
+    is_plan_heading(fields) && heading_fault(fields).is_none()
 }
 
 /// Reads the first record of a script again, which is empty where there is none.
