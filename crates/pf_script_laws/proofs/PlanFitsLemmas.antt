@@ -1,3 +1,4 @@
 pub mod Answered
 pub mod Held
 pub mod Judged
+pub mod Unserved

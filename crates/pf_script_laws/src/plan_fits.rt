@@ -1,7 +1,7 @@
 //! Whether the script of a plan fits. What a conversion says of its plan is what `fit` says of a desk that answered the script's
 //! commands.
 
-ghost use Rattle.pf_script_laws.specs.PlanFits.Laws.{PlansAreTaken, PlansFitWhereTheyAreSaidTo, PlansMissNothing};
+ghost use Rattle.pf_script_laws.specs.PlanFits.Laws.{PlansAreTaken, PlansFitWhereTheyAreSaidTo, PlansMissNothing, UnservedPlansHaveNoSchedule};
 
 /// A desk that is asked what a plan's script says refuses nothing.
 pub fn plans_are_taken()
@@ -18,4 +18,10 @@ pub fn plans_fit_where_they_are_said_to()
 /// the processors, joins are denied.
 pub fn plans_miss_nothing()
     ensures { PlansMissNothing }
+{}
+
+/// Where the load of a plan is above its processors, no schedule in quanta serves its tasks, whatever their numbers: so it is
+/// beyond margins that are exact.
+pub fn unserved_plans_have_no_schedule()
+    ensures { UnservedPlansHaveNoSchedule }
 {}

@@ -86,7 +86,8 @@ no_leave_alike number s (x ∷ xs) all =
     one (Delay slot task held) lt rest = absurd lt
     one (Limit slot count) lt rest = absurd lt
 
-no_weight_fault : (base : ℕ) (s : Slotted) → IsTakable base s → weight_fault base s.cost s.period ≡ None
+-- Use: it is a weight over the base.
+pub no_weight_fault : (base : ℕ) (s : Slotted) → IsTakable base s → weight_fault base s.cost s.period ≡ None
 no_weight_fault base s is =
     let some = is.slotted.some in
     let within = is.slotted.within in

@@ -1,5 +1,5 @@
 -- What a desk answers to what a plan's script says, and how it fits.
-use Rattle.std.specs.Prelude.{⊤, ◌≡◌, ◌↔◌, ℕ, ◌*◌, ◌≤◌, false, List, ◌++◌, All, replicate}
+use Rattle.std.specs.Prelude.{⊤, ◌≡◌, ◌↔◌, ℕ, ◌*◌, ◌<◌, ◌≤◌, Bool, false, List, ◌++◌, All, map, replicate}
 use Rattle.pf_convert.specs.declared.plan.Plan.{Plan}
 use Rattle.pf_convert.specs.declared.slotted.Slotted.{Slotted}
 use Rattle.pf_scenario.specs.System.{System, wide_horizon}
@@ -19,6 +19,9 @@ use Rattle.pf_verdict.specs.Findings.{grounds_of}
 use Rattle.pf_verdict.specs.Verdict.{verdict_of}
 use Rattle.pf_verdict.specs.declared.verdict.Verdict.TheVariants.{Fits}
 use Rattle.pf_convert.specs.Conversion.Script.{steps_of}
+use Rattle.pf_convert.specs.Margins.Fitting.{IsPlan}
+use Rattle.pf_laws.specs.StaticSets.Periodic.{Periodic}
+use Rattle.pf_laws.specs.StaticSets.Service.{Serves}
 use Rattle.pf_script_laws.specs.Conversions.Records.{each_numbered}
 use Rattle.pf_script_laws.specs.Conversions.Read.{IsWritten}
 use Rattle.pf_script_laws.specs.Conversions.Written.{IsMeasured}
@@ -57,3 +60,14 @@ PlansMissNothing =
     (processors quantum : ℕ) (tasks : List Listed) (plan : Plan) (history : List Entry) (seen : Seen) → IsWritten processors quantum tasks plan → IsMeasured plan
     → seen.state.plan.settings ≡ plan_settings processors plan.base → asked_in history ≡ plan_commands plan → StandsForHistory history seen
     → MissesNone seen.state.plan
+
+-- these tasks, whatever their numbers, are those of a plan
+pub record HasTasks (p : Periodic) (tasks : List Slotted) : Type 0 where
+  pub costs : map p.cost p.tasks ≡ map (λ (s : Slotted). s.cost) tasks
+  pub periods : map p.period p.tasks ≡ map (λ (s : Slotted). s.period) tasks
+
+-- Where the load of a plan is above its processors, no choice of quanta serves its tasks, whatever their numbers.
+abbrev pub UnservedPlansHaveNoSchedule : Type 0
+UnservedPlansHaveNoSchedule =
+    (plan : Plan) (p : Periodic) (runs : ℕ → ℕ → Bool) → IsPlan plan → HasTasks p plan.tasks.items → p.base ≡ plan.base
+    → p.processors * plan.base < plan.load → Serves p runs → ⊥
