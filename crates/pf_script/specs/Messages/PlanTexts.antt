@@ -33,6 +33,18 @@ owner_text task = codes " is the name of task " ++ decimal task ++ codes " alrea
 abbrev pub owned_text : List ℕ → ℕ → List ℕ
 owned_text at task = quoted at ++ owner_text task
 
+-- what follows the value of a field that is none of what it has to be
+abbrev pub field_words : Reason → List ℕ
+field_words NoNumber = codes " is no number of 1 to 15 digits"
+field_words NoCap = codes " is neither full nor a number of 1 to 15 digits"
+field_words NoUnit = codes " is no unit: ns, us, ms, s"
+field_words NoName = codes " is no name: a letter, then up to 23 letters, digits, spaces, _ - . +"
+field_words NoTask = codes " names no task so far"
+field_words NoLabel = codes " is no label: a letter, then up to 23 letters, digits, spaces, _ - . +"
+field_words LabelTaken = codes " labels an event already"
+field_words LabelUnknown = codes " labels no event so far"
+field_words reason = []
+
 -- by the reason, where the field is there
 unfoldable pub reason_what : List Named → List (List ℕ) → ℕ → List ℕ → Reason → List ℕ
 reason_what names fields number at NoRecord = shown_text at (codes " is no record")
@@ -42,23 +54,14 @@ reason_what names fields number at NoEvent = shown_text at (codes " is no event"
 reason_what names fields number at NoSettings = codes "settings are expected"
 reason_what names fields number at LateSettings = codes "settings come once, before all changes and steps"
 reason_what names fields number at LateSlot = codes "slot comes once, before all changes and steps"
-reason_what names fields number at NoNumber = named_text true fields number (shown_text at (codes " is no number of 1 to 15 digits"))
-reason_what names fields number at NoCap = named_text true fields number (shown_text at (codes " is neither full nor a number of 1 to 15 digits"))
 reason_what names fields number at (Outside value most) = named_text true fields number (outside_text value most)
 reason_what names fields number at (Fields count) = too_much_text true fields
 reason_what names fields number at (JoinFields least) = too_much_text true fields
 reason_what names fields number at StepFields = too_much_text true fields
 reason_what names fields number at SettingsFields = too_much_text true fields
-reason_what names fields number at NoUnit = named_text true fields number (shown_text at (codes " is no unit: ns, us, ms, s"))
 reason_what names fields number at (HasName task) = named_text true fields number (named_already_text names task)
-reason_what names fields number at NoName =
-    named_text true fields number (shown_text at (codes " is no name: a letter, then up to 23 letters, digits, spaces, _ - . +"))
 reason_what names fields number at (NameOf task) = named_text true fields number (owned_text at task)
-reason_what names fields number at NoTask = named_text true fields number (shown_text at (codes " names no task so far"))
-reason_what names fields number at NoLabel =
-    named_text true fields number (shown_text at (codes " is no label: a letter, then up to 23 letters, digits, spaces, _ - . +"))
-reason_what names fields number at LabelTaken = named_text true fields number (shown_text at (codes " labels an event already"))
-reason_what names fields number at LabelUnknown = named_text true fields number (shown_text at (codes " labels no event so far"))
+reason_what names fields number at reason = named_text true fields number (shown_text at (field_words reason))
 
 abbrev pub what_text : List Named → List (List ℕ) → RecordFault → List ℕ
 what_text names fields fault =

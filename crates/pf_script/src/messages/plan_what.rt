@@ -1,7 +1,7 @@
 ghost use Rattle.std.specs.Prelude.{◌≡◌, ◌++◌, OnOk, codes, true};
 ghost use Rattle.std.specs.Fmt.{decimal};
 ghost use Rattle.pf_script.specs.Messages.FieldTexts.{named_text};
-ghost use Rattle.pf_script.specs.Messages.PlanTexts.{is_missing, is_of_order, named_already_text, owned_text, owner_text, reason_what, what_text};
+ghost use Rattle.pf_script.specs.Messages.PlanTexts.{field_words, is_missing, is_of_order, named_already_text, owned_text, owner_text, reason_what, what_text};
 
 use crate::fields::Fields;
 use crate::messages::field_text::{
@@ -77,86 +77,34 @@ fn push_reason(
         Reason::LateSlot => text.extend_from_slice(
             b"slot comes once, before all changes and steps",
         ),
-        Reason::NoNumber => push_field(
-            alloc,
-            text,
-            true,
-            fields,
-            number,
-            at,
-            " is no number of 1 to 15 digits",
-        ),
-        Reason::NoCap => push_field(
-            alloc,
-            text,
-            true,
-            fields,
-            number,
-            at,
-            " is neither full nor a number of 1 to 15 digits",
-        ),
         Reason::Outside {
             number: value,
             most,
         } => push_not_within(alloc, text, true, fields, number, value, most),
         Reason::Fields(_) | Reason::JoinFields(_) | Reason::StepFields | Reason::SettingsFields =>
             push_too_much(text, true, fields),
-        Reason::NoUnit => push_field(
-            alloc,
-            text,
-            true,
-            fields,
-            number,
-            at,
-            " is no unit: ns, us, ms, s",
-        ),
         Reason::HasName(task) => push_has_name(alloc, text, names, fields, number, task),
-        Reason::NoName => push_field(
-            alloc,
-            text,
-            true,
-            fields,
-            number,
-            at,
-            " is no name: a letter, then up to 23 letters, digits, spaces, _ - . +",
-        ),
         Reason::NameOf(task) => push_name_of(alloc, text, fields, number, at, task),
-        Reason::NoTask => push_field(
-            alloc,
-            text,
-            true,
-            fields,
-            number,
-            at,
-            " names no task so far",
-        ),
-        Reason::NoLabel => push_field(
-            alloc,
-            text,
-            true,
-            fields,
-            number,
-            at,
-            " is no label: a letter, then up to 23 letters, digits, spaces, _ - . +",
-        ),
-        Reason::LabelTaken => push_field(
-            alloc,
-            text,
-            true,
-            fields,
-            number,
-            at,
-            " labels an event already",
-        ),
-        Reason::LabelUnknown => push_field(
-            alloc,
-            text,
-            true,
-            fields,
-            number,
-            at,
-            " labels no event so far",
-        ),
+        _ => push_field(alloc, text, true, fields, number, at, field_words(reason)),
+    }
+}
+
+/// What follows the value of a field that is none of what it has to be; nothing of any other reason.
+fn field_words(reason: Reason) -> &'static str
+    ensures { result.now ≡ field_words reason }
+{
+    match reason {
+        Reason::NoNumber => " is no number of 1 to 15 digits",
+        Reason::NoCap => " is neither full nor a number of 1 to 15 digits",
+        Reason::NoUnit => " is no unit: ns, us, ms, s",
+        Reason::NoName => " is no name: a letter, then up to 23 letters, digits, spaces, _ - . +",
+        Reason::NoTask => " names no task so far",
+        Reason::NoLabel => {
+            " is no label: a letter, then up to 23 letters, digits, spaces, _ - . +"
+        }
+        Reason::LabelTaken => " labels an event already",
+        Reason::LabelUnknown => " labels no event so far",
+        _ => "",
     }
 }
 
