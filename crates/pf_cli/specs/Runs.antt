@@ -34,7 +34,7 @@ run_meaning format bytes =
     if nat_lt longest_script (length bytes) then record { text = []; end = TooLong } else meaning_of format bytes (plain bytes)
 
 -- the answer is the end of what was meant, and the writer took its text; where the reader fails the writer is as it was, and
--- after a writer that fails or a want of memory it took a front of the text
+-- after a writer that fails, or where memory is refused, it took a front of the text
 abbrev pub RunsAs : {A : Type 0} → Meaning → Result A RunFault → Option (List ℕ) → Option (List ℕ) → Type 0
 RunsAs m (Ok done) old new = (m.end ≡ Done) × Appends old new m.text
 RunsAs m (Err (why.BadLine number)) old new = (m.end ≡ BadRecord number) × Appends old new m.text

@@ -50,7 +50,7 @@ state_more st at after turn is more =
     ∙ sym (behind-append st (replicate turn Step) (Step ∷ []))
     ∙ ap (state_behind st) (replicate_more turn Step)
 
--- Use: a step was not taken, for want of memory, or not told.
+-- Use: a step was not taken, as memory was refused, or not told.
 pub amid_at : (st at after : State) (turn count : ℕ) → at ≡ state_behind st (replicate turn Step) → turn < count
     → ((0 < turn) × (after ≡ at)) ⊎ (after ≡ state_behind at (Step ∷ [])) → IsAmidSteps st count after
 amid_at st at after turn count is left (inl before) = record {

@@ -88,6 +88,6 @@ abbrev pub IsLeftAmid : SessionState → Heard → SessionState → Type 0
 IsLeftAmid s (Record said line) t = IsAmid s said t
 IsLeftAmid s heard t = ⊥
 
--- a line was not answered, for want of memory: nothing has changed, or the line was a record that leaves it in mid-change
+-- a line was not answered, as memory was refused: nothing has changed, or the line was a record that leaves it in mid-change
 abbrev pub IsStopped : SessionState → List ℕ → SessionState → Type 0
 IsStopped s line t = (t ≡ s) ⊎ IsLeftAmid s (heard_of s line) t
