@@ -191,7 +191,7 @@ class Reading:
         else:
             self.has_begun = True
             label = fields[1:] if word == "strict" else fields
-            if label[0] == "label":
+            if label[0] == "label" and label[2] != "again":
                 self.labels.append(label[1])
 
     def take_change(self, fields, at, front):
@@ -204,7 +204,11 @@ class Reading:
         front = [*front, word, name]
         if at + 1 == len(fields):
             raise Fault(f"{name} is missing: {','.join(front)},EVENT", at + 1, "missing")
-        self.take_field(word, name, fields[at + 1], at + 1)
+        if word == "label" and fields[at + 2:at + 3] == ["again"]:
+            self.take_field("again", name, fields[at + 1], at + 1)
+            front, at = [*front, "again"], at + 1
+        else:
+            self.take_field(word, name, fields[at + 1], at + 1)
         self.take_word(fields, at + 2, "event", EVENTS, f"{','.join(front)},EVENT")
         self.take_counted(fields, at + 2, front)
 
@@ -244,6 +248,8 @@ class Reading:
             return f"{shown(value)} is the name of task {next(it for it in self.names if self.names[it] == value)} already", []
         if word == "label" and value in self.labels:
             return f"{shown(value)} labels an event already", []
+        if word == "again" and value not in self.labels:
+            return f"{shown(value)} labels no event so far", ["label", *self.labels]
         return None
 
     def wrong_value(self, word, name, value):

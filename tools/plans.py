@@ -149,8 +149,9 @@ def number_in(text, told):
 def change_of(fields, told):
     """A change, and the label of its event, if it has one."""
     if fields[:1] == ["label"] and len(fields) > 2:
-        label, event = text_in(fields[1]), event_of(fields[2:], told)
-        if label in told.labels:
+        is_again = fields[2] == "again"
+        label, event = text_in(fields[1]), event_of(fields[3 if is_again else 2:], told)
+        if (label in told.labels) != is_again:
             raise BadRecord
         return Change("insert", event=event), label
     if fields[:1] == ["alter"] and len(fields) > 1:
@@ -194,7 +195,8 @@ def replies(read, lines):
                 told.has_begun = True
                 lines += answered
                 if label:
-                    told.labels[label] = int(answered[0].split()[1]) if answered[0].startswith("event ") else 0
+                    made = int(answered[0].split()[1]) if answered[0].startswith("event ") else 0
+                    told.labels[label] = made or told.labels.get(label, 0)
         except BadRecord:
             return nth
     return desk, told

@@ -140,7 +140,7 @@ class PlanDrawing(Drawing):
     """The script of a profile of a plan, while it is drawn: with names, labels, comments and blanks."""
 
     TEXTS = ("camera", "lidar", "a", "rear left", "abcdefghijklmnopqrstuvwx", "x-1_y.z+", "step", "p0", "task 1")
-    FLAWS = ("label,x", "name,1", "name,1,9x", "slot,0,us", "slot,5,min", "# no record", "alter,no such,leave,0,1", "join,0,nobody,1,1")
+    FLAWS = ("label,x", "label,no such,again,limit,0,1", "label,x,again", "name,1", "name,1,9x", "slot,0,us", "slot,5,min", "# no record", "alter,no such,leave,0,1", "join,0,nobody,1,1")
 
     def __init__(self, draw, profile):
         super().__init__(draw, profile)
@@ -164,9 +164,11 @@ class PlanDrawing(Drawing):
         return self.draw.choice(self.labels) if self.labels and self.draw.random() < 0.6 else super().held()
 
     def labelled(self, record):
-        """The event with a label before it, now and then."""
+        """The event with a label before it, now and then, or with one that another event had."""
         if self.draw.random() < 0.6:
             return record
+        if self.labels and self.draw.random() < 0.2:
+            return f"label,{self.draw.choice(self.labels)},again,{record}"
         self.labels.append(f"l{len(self.labels)}")
         return f"label,{self.labels[-1]},{record}"
 

@@ -114,6 +114,13 @@ def labels(size):
     return opened(2, [*LIGHT, *labelled, *(f"alter,d{at},delay,{2_000 + at},1,2" for at in range(size)), "step"])
 
 
+def labels_again(size):
+    """So many labels, each of which goes on to another event."""
+    given = [f"label,d{at},{delay}" for at, delay in enumerate(delays(size, 1_000))]
+    again = [f"label,d{at},again,{delay}" for at, delay in enumerate(delays(size, 2_000))]
+    return opened(2, [*LIGHT, *given, *again, "step"])
+
+
 def times(size):
     """Slots of a plan that says how long they are."""
     return opened(2, ["slot,500,us", "name,1,camera", *FULL, f"step,{size}"])

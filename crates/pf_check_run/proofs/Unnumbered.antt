@@ -4,6 +4,7 @@ use Rattle.std.specs.Prelude.{⊤, IfErr, codes, if◌then◌else◌, is_some, n
 use Rattle.std.specs.Str.{bytes_eq}
 use Rattle.std.proofs.lemmas.List.{map-append}
 use Rattle.pf_script_run.specs.Carried.{Stops}
+use Rattle.pf_script.proofs.PlanLemmas.GivenLabels.{same_labels_with}
 use Rattle.pf_script.specs.PlanCheck.Checked.{bad_if, fault_shown, faults, faults_at_end, faults_from, faults_next, faults_of, first_fields, is_plan, number_after, rows_after, with_fault}
 use Rattle.pf_script.specs.PlanCheck.Reports.{FaultShown}
 use Rattle.pf_vocabulary.specs.declared.fault.fault.Fault.{Fault}
@@ -35,7 +36,7 @@ use Rattle.pf_script.specs.declared.plan.said.Said.TheVariants.{Settings, Slot, 
 use Rattle.pf_script.specs.declared.plan.state.Progress.{Progress}
 use Rattle.pf_script.specs.Plan.Heading.{heading_fault, is_plan_heading}
 use Rattle.pf_script.specs.Plan.Labels.{number_of_label}
-use Rattle.pf_script.specs.Plan.Parsing.{◌>>=◌, alter_at, asked, edit_at, event_at, fault_at, id_at, label_at, labelled_at, name_at, number_or, of_length, opening_at, record_at, said_at, slot_at, steps_at, strike_at}
+use Rattle.pf_script.specs.Plan.Parsing.{◌>>=◌, alter_at, asked, edit_at, event_at, fault_at, first_labelled_at, given_label_at, id_at, label_at, labelled_again_at, labelled_at, name_at, number_or, of_length, opening_at, record_at, said_at, slot_at, steps_at, strike_at}
 use Rattle.pf_script.specs.Plan.Progress.{at_heading, progress_after, with_label}
 
 -- the same but for the numbers of labels
@@ -76,9 +77,7 @@ labels_alike : (label : Option (List ℕ)) (m n : ℕ) (ls ks : List Labelled) �
     → map (λ (l : Labelled). l.name) (with_label label m ls) ≡ map (λ (l : Labelled). l.name) (with_label label n ks)
 labels_alike None m n ls ks h = h
 labels_alike (Some label) m n ls ks h =
-    map-append (λ (l : Labelled). l.name) ls (record { name = label; number = m } ∷ [])
-    ∙ ap (λ (names : List (List ℕ)). names ++ label ∷ []) h
-    ∙ sym (map-append (λ (l : Labelled). l.name) ks (record { name = label; number = n } ∷ []))
+    same_labels_with label m n ls ks h
 
 asks_lead : (a b : Line) (label : Option (List ℕ)) → LeadOn (Asks a label) (Asks b label)
 asks_lead a b label p q m n alike = record {
@@ -162,13 +161,36 @@ alter_read p ks fields place h =
     both_then Anyhow Anyhow (event_at p.names NoEvent fields (place + 2)) (event_at p.names NoEvent fields (place + 2)) (λ event. Ok (Alter m event)) (λ event. Ok (Alter n event))
     (both_same Anyhow (event_at p.names NoEvent fields (place + 2)) (λ e. tt)) (λ e f same. tt))
 
+given_read : (ls ks : List Labelled) (fields : List (List ℕ)) (place : ℕ) → map (λ (l : Labelled). l.name) ls ≡ map (λ (l : Labelled). l.name) ks
+    → given_label_at ls fields place ≡ given_label_at ks fields place
+unfolding given_label_at
+given_read ls ks fields place h =
+    ap
+    (λ (b : Bool). if not (is_text (field fields place)) then Err (fault_at place NoLabel) else if b then Ok (field fields place) else Err (fault_at place LabelUnknown))
+    (known ls ks (field fields place) h)
+
+first_read : (p : Progress) (ks : List Labelled) (strict : Bool) (fields : List (List ℕ)) (place : ℕ)
+    → map (λ (l : Labelled). l.name) p.labels ≡ map (λ (l : Labelled). l.name) ks
+    → BothRead LeadOn (first_labelled_at p strict fields place) (first_labelled_at (record p { labels = ks }) strict fields place)
+unfolding first_labelled_at
+first_read p ks strict fields place h =
+    rw (sym (label_read p.labels ks fields (place + 1) h))
+    (both_same LeadOn _ said_leads)
+
+again_read : (p : Progress) (ks : List Labelled) (strict : Bool) (fields : List (List ℕ)) (place : ℕ)
+    → map (λ (l : Labelled). l.name) p.labels ≡ map (λ (l : Labelled). l.name) ks
+    → BothRead LeadOn (labelled_again_at p strict fields place) (labelled_again_at (record p { labels = ks }) strict fields place)
+unfolding labelled_again_at
+again_read p ks strict fields place h =
+    rw (sym (given_read p.labels ks fields (place + 1) h))
+    (both_same LeadOn _ said_leads)
+
 labelled_read : (p : Progress) (ks : List Labelled) (strict : Bool) (fields : List (List ℕ)) (place : ℕ)
     → map (λ (l : Labelled). l.name) p.labels ≡ map (λ (l : Labelled). l.name) ks
     → BothRead LeadOn (labelled_at p strict fields place) (labelled_at (record p { labels = ks }) strict fields place)
 unfolding labelled_at
 labelled_read p ks strict fields place h =
-    rw (sym (label_read p.labels ks fields (place + 1) h))
-    (both_same LeadOn _ said_leads)
+    either LeadOn (is_word fields (place + 2) (codes "again")) _ _ _ _ (again_read p ks strict fields place h) (first_read p ks strict fields place h)
 
 edit_read : (p : Progress) (ks : List Labelled) (strict : Bool) (none : Reason) (fields : List (List ℕ)) (place : ℕ)
     → map (λ (l : Labelled). l.name) p.labels ≡ map (λ (l : Labelled). l.name) ks

@@ -10,6 +10,6 @@ pub mod Records
 pub mod ScriptExamples
 pub mod ToldExamples
 pub mod CheckLemmas
-mod PlanLemmas
+pub mod PlanLemmas
 mod PlanCheckLemmas
 mod MessagesLemmas

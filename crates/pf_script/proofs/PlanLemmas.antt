@@ -1,1 +1,3 @@
 pub mod GrammarExamples
+pub mod LabelPlaces
+pub mod GivenLabels

@@ -227,7 +227,7 @@ impl Session {
         self.is_first = false;
         self.progress.begun = true;
         if let Some(label) = label {
-            if self.progress.labels.push(label, number).is_err() {
+            if self.progress.labels.give(label, number).is_err() {
                 return Err(Stop::Lost);
             }
         }

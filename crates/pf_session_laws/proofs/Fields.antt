@@ -132,6 +132,10 @@ pub change_words : IsPlain (codes "strike") × IsPlain (codes "alter") × IsPlai
 unfolding trim_start trim_end
 change_words = ((refl, refl), (refl, refl), (refl, refl), (refl, refl))
 
+pub again_word : IsPlain (codes "again")
+unfolding trim_start trim_end
+again_word = (refl, refl)
+
 pub record_words : IsPlain (codes "step") × IsPlain (codes "slot") × IsPlain (codes "name") × IsPlain (codes "settings") × IsPlain (codes "full")
 unfolding trim_start trim_end
 record_words = ((refl, refl), (refl, refl), (refl, refl), (refl, refl), (refl, refl))

@@ -22,16 +22,16 @@ use Rattle.pf_script.specs.declared.line.Line.TheVariants.{Edit, Steps}
 use Rattle.pf_script.specs.declared.record.ScriptSettings.{ScriptSettings}
 use Rattle.pf_script.specs.declared.version.Version.TheVariants.{Second}
 use Rattle.pf_script.specs.Plan.Labels.{number_of_label}
-use Rattle.pf_script.specs.Plan.Parsing.{◌>>=◌, alter_at, asked, cap_at, delay_at, early_at, edit_at, event_at, every_at, fault_at, free_name_at, id_at, join_at, label_at, labelled_at, leave_at, limit_at, name_at, name_unless, nameless_at, names_record, number_or, number_within, of_length, opening_at, record_at, said_at, settings_at, slot_at, steps_at, strike_at, task_at}
+use Rattle.pf_script.specs.Plan.Parsing.{◌>>=◌, alter_at, asked, cap_at, delay_at, early_at, edit_at, event_at, every_at, fault_at, first_labelled_at, free_name_at, given_label_at, id_at, join_at, label_at, labelled, labelled_again_at, labelled_at, leave_at, limit_at, name_at, name_unless, nameless_at, names_record, number_or, number_within, of_length, opening_at, record_at, said_at, settings_at, slot_at, steps_at, strike_at, task_at}
 use Rattle.pf_script.specs.declared.plan.fault.Reason.{Reason}
-use Rattle.pf_script.specs.declared.plan.fault.Reason.TheVariants.{Fields, JoinFields, LabelTaken, LateSettings, LateSlot, NoCap, NoChange, NoEvent, NoLabel, NoName, NoNumber, NoRecord, NoSettings, NoUnit, SettingsFields, StepFields}
+use Rattle.pf_script.specs.declared.plan.fault.Reason.TheVariants.{Fields, JoinFields, LabelTaken, LabelUnknown, LateSettings, LateSlot, NoCap, NoChange, NoEvent, NoLabel, NoName, NoNumber, NoRecord, NoSettings, NoUnit, SettingsFields, StepFields}
 use Rattle.pf_script.specs.declared.plan.fault.RecordFault.{RecordFault}
 use Rattle.pf_script.specs.declared.plan.labels.Labelled.{Labelled}
 use Rattle.pf_script.specs.declared.plan.said.Said.{Said}
 use Rattle.pf_script.specs.declared.plan.said.Said.TheVariants.{Settings, Slot, Name, Asks}
 use Rattle.pf_script.specs.declared.plan.state.Progress.{Progress}
 use Rattle.pf_session_laws.proofs.Reading.{IsPlain, IsRead}
-use Rattle.pf_session_laws.proofs.Fields.{AreTexts, GivesText, IsWorded, PlainFrom, at_most, both, change_words, early_plain, event_words, id_plain, none_from, one_more, or_plain, record_words, some_from, task_plain, unit_words, within_plain, word_is, worded}
+use Rattle.pf_session_laws.proofs.Fields.{AreTexts, GivesText, IsWorded, PlainFrom, again_word, at_most, both, change_words, early_plain, event_words, id_plain, none_from, one_more, or_plain, record_words, some_from, task_plain, unit_words, within_plain, word_is, worded}
 
 -- events, after their word
 join_plain : (names : List Named) (fields : List (List ℕ)) (place : ℕ) (event : Event) → All (λ m. is_text m.name ≡ true) names → join_at names fields place ≡ Ok event → PlainFrom fields (place + 1)
@@ -128,17 +128,54 @@ label_text labels fields place label e = by (is_text (field fields place)) (is_s
         let same : field fields place ≡ label = cc in
         (subst (λ (t : List ℕ). is_text t ≡ true) same is, name_plain (field fields place) is)
 
-labelled_plain : (p : Progress) (strict : Bool) (fields : List (List ℕ)) (place : ℕ) (said : Said) → AreTexts p → labelled_at p strict fields place ≡ Ok said
+given_text : (labels : List Labelled) (fields : List (List ℕ)) (place : ℕ) (label : List ℕ) → given_label_at labels fields place ≡ Ok label
+    → (is_text label ≡ true) × IsPlain (field fields place)
+unfolding given_label_at
+given_text labels fields place label e = by (is_text (field fields place)) (is_some (number_of_label labels (field fields place))) refl e
+  where
+    by : (text there : Bool) → is_text (field fields place) ≡ text
+        → (if not text then Err (fault_at place NoLabel) else if there then Ok (field fields place) else Err (fault_at place LabelUnknown)) ≡ Ok label
+        → (is_text label ≡ true) × IsPlain (field fields place)
+    by false there is e = let bad : Err (fault_at place NoLabel) ≡ Ok label = e in cc
+    by true false is e = let bad : Err (fault_at place LabelUnknown) ≡ Ok label = e in cc
+    by true true is e =
+        let same : field fields place ≡ label = cc in
+        (subst (λ (t : List ℕ). is_text t ≡ true) same is, name_plain (field fields place) is)
+
+first_plain : (p : Progress) (strict : Bool) (fields : List (List ℕ)) (place : ℕ) (said : Said) → AreTexts p → first_labelled_at p strict fields place ≡ Ok said
     → PlainFrom fields (place + 1) × GivesText said
-unfolding labelled_at
-labelled_plain p strict fields place said texts e =
+unfolding first_labelled_at
+first_plain p strict fields place said texts e =
     let a = both (label_at p.labels fields (place + 1)) _ said e in
     let b = both (event_at p.names NoEvent fields (place + 2)) _ said a.2 in
     let text = label_text p.labels fields (place + 1) a.0 a.1 in
-    let same : Asks (Edit (Insert b.0) strict) (Some a.0) ≡ said = cc in (
+    let same : labelled strict a.0 b.0 ≡ said = cc in (
       one_more fields (place + 1) (place + 2) (omega arith) text.1 (event_plain p.names NoEvent fields (place + 2) b.0 texts.names b.1).1,
       subst GivesText same text.0,
     )
+
+again_plain : (p : Progress) (strict : Bool) (fields : List (List ℕ)) (place : ℕ) (said : Said) → AreTexts p → is_word fields (place + 2) (codes "again") ≡ true
+    → labelled_again_at p strict fields place ≡ Ok said → PlainFrom fields (place + 1) × GivesText said
+unfolding labelled_again_at
+again_plain p strict fields place said texts again e =
+    let a = both (given_label_at p.labels fields (place + 1)) _ said e in
+    let b = both (event_at p.names NoEvent fields (place + 3)) _ said a.2 in
+    let text = given_text p.labels fields (place + 1) a.0 a.1 in
+    let same : labelled strict a.0 b.0 ≡ said = cc in (
+      one_more fields (place + 1) (place + 2) (omega arith) text.1
+          (one_more fields (place + 2) (place + 3) (omega arith) (subst IsPlain (sym (word_is fields (place + 2) (codes "again") again)) again_word) (event_plain p.names NoEvent fields (place + 3) b.0 texts.names b.1).1),
+      subst GivesText same text.0,
+    )
+
+labelled_plain : (p : Progress) (strict : Bool) (fields : List (List ℕ)) (place : ℕ) (said : Said) → AreTexts p → labelled_at p strict fields place ≡ Ok said
+    → PlainFrom fields (place + 1) × GivesText said
+unfolding labelled_at
+labelled_plain p strict fields place said texts e = by (is_word fields (place + 2) (codes "again")) refl e
+  where
+    by : (b : Bool) → is_word fields (place + 2) (codes "again") ≡ b
+        → (if b then labelled_again_at p strict fields place else first_labelled_at p strict fields place) ≡ Ok said → PlainFrom fields (place + 1) × GivesText said
+    by true again e = again_plain p strict fields place said texts again e
+    by false first e = first_plain p strict fields place said texts e
 
 -- a record that has these fields from a place on
 abbrev Says : List (List ℕ) → ℕ → Said → Type 0

@@ -26,6 +26,7 @@ use Rattle.pf_scenario.specs.declared.event.Event.{Event}
 use Rattle.pf_scenario.specs.declared.event.Numbered.{Numbered}
 use Rattle.pf_scenario.specs.declared.fault.EditFault.{EditFault}
 use Rattle.pf_script_desk.specs.Asked.{commands_of}
+use Rattle.pf_script.proofs.PlanLemmas.GivenLabels.{all_labels_with}
 use Rattle.pf_script.specs.declared.line.Line.{Line}
 use Rattle.pf_script.specs.declared.line.Line.TheVariants.{Edit, Steps}
 use Rattle.pf_session.specs.Made.{event_before, left_behind, made_behind_undo, made_of, new_number, number_made, renumbered, taking_back}
@@ -83,8 +84,7 @@ labels_texts : (line : Line) (label : Option (List ℕ)) (number : ℕ) (labels 
     → All (λ l. is_text l.name ≡ true) (with_label label number labels)
 labels_texts line None number labels text all = all
 labels_texts line (Some label) number labels text all =
-    All-append (λ (l : Labelled). is_text l.name ≡ true) labels (record { name = label; number = number } ∷ []) all
-    (All-cons (λ (l : Labelled). is_text l.name ≡ true) (record { name = label; number = number }) [] text (All-nil (λ (l : Labelled). is_text l.name ≡ true)))
+    all_labels_with (λ (l : Labelled). is_text l.name ≡ true) label number labels text (λ l text. text) all
 
 -- events
 events_more : (xs : List Numbered) (x : Numbered) → ShortEvents xs → AreShort x.event → ShortEvents (xs ++ x ∷ [])

@@ -21,7 +21,7 @@ use Rattle.pf_script.specs.declared.record.ScriptSettings.{ScriptSettings}
 use Rattle.pf_script.specs.declared.version.Version.TheVariants.{Second}
 use Rattle.pf_script.specs.Plan.Labels.{number_of_label}
 use Rattle.pf_script.specs.declared.plan.labels.Labelled.{Labelled}
-use Rattle.pf_script.specs.Plan.Parsing.{◌>>=◌, alter_at, asked, cap_at, delay_at, early_at, edit_at, event_at, every_at, fault_at, free_name_at, id_at, join_at, label_at, labelled_at, leave_at, limit_at, name_at, nameless_at, name_unless, names_record, number_or, number_within, of_length, opening_at, record_at, said_at, settings_at, slot_at, steps_at, strike_at, task_at}
+use Rattle.pf_script.specs.Plan.Parsing.{◌>>=◌, alter_at, asked, cap_at, delay_at, early_at, edit_at, event_at, every_at, fault_at, first_labelled_at, free_name_at, given_label_at, id_at, join_at, label_at, labelled, labelled_again_at, labelled_at, leave_at, limit_at, name_at, nameless_at, name_unless, names_record, number_or, number_within, of_length, opening_at, record_at, said_at, settings_at, slot_at, steps_at, strike_at, task_at}
 use Rattle.pf_script.specs.declared.plan.fault.Reason.{Reason}
 use Rattle.pf_script.specs.declared.plan.fault.Reason.TheVariants.{NoCap, NoChange, NoEvent, NoNumber, NoRecord, NoSettings, NoTask, NoUnit, LabelUnknown, LateSettings, LateSlot, NoName, Fields, JoinFields, SettingsFields, StepFields, HasName}
 use Rattle.pf_script.specs.declared.plan.fault.RecordFault.{RecordFault}
@@ -198,14 +198,22 @@ alter_short p fields place change short e =
       fields = event_short p.names NoEvent fields (place + 2) b.0 short.names b.1;
     })
 
+label_short : (p : Progress) (strict : Bool) (fields : List (List ℕ)) (next : ℕ) (said : Said) (label : Result (List ℕ) RecordFault) → IsShortProgress p
+    → (label >>= λ text. event_at p.names NoEvent fields next >>= λ event. Ok (labelled strict text event)) ≡ Ok said → CanBeWritten true p.names said
+label_short p strict fields next said label short e =
+    let a = both label _ said e in
+    let b = both (event_at p.names NoEvent fields next) _ said a.2 in
+    let same : labelled strict a.0 b.0 ≡ said = cc in
+    subst (CanBeWritten true p.names) same (refl, event_short p.names NoEvent fields next b.0 short.names b.1)
+
 labelled_short : (p : Progress) (strict : Bool) (fields : List (List ℕ)) (place : ℕ) (said : Said) → IsShortProgress p
     → labelled_at p strict fields place ≡ Ok said → CanBeWritten true p.names said
-unfolding labelled_at
-labelled_short p strict fields place said short e =
-    let a = both (label_at p.labels fields (place + 1)) _ said e in
-    let b = both (event_at p.names NoEvent fields (place + 2)) _ said a.2 in
-    let same : Asks (Edit (Insert b.0) strict) (Some a.0) ≡ said = cc in
-    subst (CanBeWritten true p.names) same (refl, event_short p.names NoEvent fields (place + 2) b.0 short.names b.1)
+unfolding labelled_at first_labelled_at labelled_again_at
+labelled_short p strict fields place said short e = by (is_word fields (place + 2) (codes "again")) e
+  where
+    by : (b : Bool) → (if b then labelled_again_at p strict fields place else first_labelled_at p strict fields place) ≡ Ok said → CanBeWritten true p.names said
+    by true e = label_short p strict fields (place + 3) said (given_label_at p.labels fields (place + 1)) short e
+    by false e = label_short p strict fields (place + 2) said (label_at p.labels fields (place + 1)) short e
 
 -- a change that is short
 change_asked : (names : List Named) (strict : Bool) (r : Result Change RecordFault) (said : Said) → ((change : Change) → r ≡ Ok change → IsShortChange change)

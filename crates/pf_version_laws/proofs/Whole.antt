@@ -7,6 +7,7 @@ use Rattle.pf_vocabulary.specs.Names.Names.{with_name}
 use Rattle.pf_vocabulary.specs.declared.names.named.Named.{Named}
 use Rattle.pf_text.specs.Rows.Rows.{Row, rows}
 use Rattle.pf_scenario.specs.declared.change.Change.TheVariants.{Insert, Alter, Strike}
+use Rattle.pf_script.proofs.PlanLemmas.GivenLabels.{all_labels_with}
 use Rattle.pf_script.specs.Fields.{is_word}
 use Rattle.pf_script.specs.Parsing.{heading_at, record_at}
 use Rattle.pf_script.specs.Places.{lines_behind, record_lines}
@@ -65,8 +66,7 @@ labels_short : (label : Option (List ℕ)) (number : ℕ) (labels : List Labelle
     → All (λ l. l.number < 10 ^ 15) (with_label label number labels)
 labels_short None number labels small short = short
 labels_short (Some label) number labels small short =
-    All-append (λ (l : Labelled). l.number < 10 ^ 15) labels (record { name = label; number = number } ∷ []) short
-    (All-cons (λ (l : Labelled). l.number < 10 ^ 15) (record { name = label; number = number }) [] small (All-nil (λ (l : Labelled). l.number < 10 ^ 15)))
+    all_labels_with (λ (l : Labelled). l.number < 10 ^ 15) label number labels small (λ l was. small) short
 
 names_short : (names : List Named) (task : ℕ) (name : List ℕ) → task < 10 ^ 15 → All (λ n. n.task < 10 ^ 15) names
     → All (λ n. n.task < 10 ^ 15) (with_name names task name)

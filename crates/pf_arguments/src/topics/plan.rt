@@ -16,7 +16,8 @@ fields, empty lines and lines that begin with # count for nothing.
   leave,SLOT,TASK    it leaves
   delay,SLOT,TASK,BY its quanta come BY slots later from SLOT on
   limit,SLOT,COUNT   COUNT processors are in use from SLOT on
-  label,TEXT,EVENT   a join, leave, delay or limit that is called TEXT
+  label,TEXT,EVENT   a join, leave, delay or limit that is called TEXT;
+                     label,TEXT,again,EVENT: one that takes a TEXT over
   alter,ID,EVENT     event ID, a number or a label, becomes this one
   strike,ID          it never was
   strict,CHANGE      any change above, refused where a slot already stepped

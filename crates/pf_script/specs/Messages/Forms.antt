@@ -18,12 +18,18 @@ event_form plan other fields =
     else if is_word fields 0 (codes "limit") then codes "limit,SLOT,COUNT"
     else other
 
+-- of the event after a label, which may go on to it again
+unfoldable pub labelled_form : Bool → List (List ℕ) → List ℕ
+labelled_form plan fields =
+    if is_word fields 0 (codes "again") then codes "again," ++ event_form plan (codes "EVENT") (drop 1 fields)
+    else event_form plan (codes "EVENT") fields
+
 -- of the change that the first of these fields names
 unfoldable pub change_form : Bool → List (List ℕ) → List ℕ
 change_form plan fields =
     if is_word fields 0 (codes "strike") then codes "strike,ID"
     else if is_word fields 0 (codes "alter") then codes "alter,ID," ++ event_form plan (codes "EVENT") (drop 2 fields)
-    else if is_word fields 0 (codes "label") then codes "label,TEXT," ++ event_form plan (codes "EVENT") (drop 2 fields)
+    else if is_word fields 0 (codes "label") then codes "label,TEXT," ++ labelled_form plan (drop 2 fields)
     else event_form plan (codes "CHANGE") fields
 
 -- of the record with these fields

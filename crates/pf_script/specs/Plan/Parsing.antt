@@ -140,12 +140,35 @@ label_at labels fields place =
     else if is_some (number_of_label labels (field fields place)) then Err (fault_at place LabelTaken)
     else Ok (field fields place)
 
+-- a label that was given
+unfoldable pub given_label_at : List Labelled → List (List ℕ) → ℕ → Result (List ℕ) RecordFault
+given_label_at labels fields place =
+    if not (is_text (field fields place)) then Err (fault_at place NoLabel)
+    else if is_some (number_of_label labels (field fields place)) then Ok (field fields place)
+    else Err (fault_at place LabelUnknown)
+
+-- an event that goes by a label
+abbrev pub labelled : Bool → List ℕ → Event → Said
+labelled strict label event = Asks (Edit (Insert event) strict) (Some label)
+
 -- `label,TEXT,` and an event
-unfoldable pub labelled_at : Progress → Bool → List (List ℕ) → ℕ → Result Said RecordFault
-labelled_at p strict fields place = do
+unfoldable pub first_labelled_at : Progress → Bool → List (List ℕ) → ℕ → Result Said RecordFault
+first_labelled_at p strict fields place = do
   label ← label_at p.labels fields (place + 1)
   event ← event_at p.names NoEvent fields (place + 2)
-  Ok (Asks (Edit (Insert event) strict) (Some label))
+  Ok (labelled strict label event)
+
+-- `label,TEXT,again,` and an event
+unfoldable pub labelled_again_at : Progress → Bool → List (List ℕ) → ℕ → Result Said RecordFault
+labelled_again_at p strict fields place = do
+  label ← given_label_at p.labels fields (place + 1)
+  event ← event_at p.names NoEvent fields (place + 3)
+  Ok (labelled strict label event)
+
+-- a labelled event
+unfoldable pub labelled_at : Progress → Bool → List (List ℕ) → ℕ → Result Said RecordFault
+labelled_at p strict fields place =
+    if is_word fields (place + 2) (codes "again") then labelled_again_at p strict fields place else first_labelled_at p strict fields place
 
 -- a change without a label
 abbrev pub asked : Bool → Change → Said

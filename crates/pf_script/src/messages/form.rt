@@ -1,5 +1,5 @@
 ghost use Rattle.std.specs.Prelude.{◌≡◌, ◌++◌, List, ℕ, OnOk};
-ghost use Rattle.pf_script.specs.Messages.Forms.{after_commas, before_mark, change_form, event_form, field_name, is_heading, is_mark, join_form, name_in, record_form, settings_form};
+ghost use Rattle.pf_script.specs.Messages.Forms.{after_commas, before_mark, change_form, event_form, field_name, is_heading, is_mark, join_form, labelled_form, name_in, record_form, settings_form};
 
 use crate::fields::Fields;
 use std::alloc::{AllocError, Global};
@@ -43,6 +43,18 @@ fn event_form(plan: bool, other: &'static str, fields: &Fields) -> &'static str
     }
 }
 
+/// Appends the form of the event after a label, which may go on to it again.
+#[tactic(auto, unfolding(crate::specs::Messages::Forms::labelled_form))]
+fn push_labelled_form(text: &mut Vec<u8>, plan: bool, fields: &Fields) -> Result<(), AllocError>
+    ensures { OnOk result (text.new.items ≡ text.old.items ++ labelled_form plan fields.now) }
+{
+    if fields.is_word(0, b"again") {
+        text.extend_from_slice(b"again,")?;
+        return text.extend_from_slice(event_form(plan, "EVENT", &fields.rest(1)).as_bytes());
+    }
+    text.extend_from_slice(event_form(plan, "EVENT", fields).as_bytes())
+}
+
 /// Appends the form of the change that the first of these fields names.
 #[tactic(auto, unfolding(crate::specs::Messages::Forms::change_form))]
 fn push_change_form(text: &mut Vec<u8>, plan: bool, fields: &Fields) -> Result<(), AllocError>
@@ -57,7 +69,7 @@ fn push_change_form(text: &mut Vec<u8>, plan: bool, fields: &Fields) -> Result<(
     }
     if fields.is_word(0, b"label") {
         text.extend_from_slice(b"label,TEXT,")?;
-        return text.extend_from_slice(event_form(plan, "EVENT", &fields.rest(2)).as_bytes());
+        return push_labelled_form(text, plan, &fields.rest(2));
     }
     text.extend_from_slice(event_form(plan, "CHANGE", fields).as_bytes())
 }

@@ -1,5 +1,6 @@
 use pf_vocabulary::names::name::Name;
 use std::alloc::{AllocError, Global};
+use std::collections::BTreeMap;
 use std::marker::Model;
 
 /// A label, and the number that its event was given.
@@ -11,35 +12,47 @@ pub struct Labelled {
     pub number: u64,
 }
 
-/// The labels of events. Contracts see them as a list, in the order in which they were given.
+/// The labels of events, of which one is found without a look at each. Contracts see them as a list, in the order in which they
+/// were given first.
 #[derive(Drop)]
 pub struct Labels {
+    alloc: Global,
     all: Vec<Labelled>,
+    /// Of each label its place among all.
+    places: BTreeMap<String, usize>,
 }
 
 impl Model for Labels {
-    ghost use Rattle.std.specs.Prelude.{List};
+    ghost use Rattle.std.specs.Prelude.{ℕ, List, All, ◌≡◌, true};
+    ghost use Rattle.std.specs.BTreeMap.{get_by_text};
+    ghost use Rattle.pf_vocabulary.specs.Names.Text.{is_text};
     ghost use Rattle.pf_script.specs.declared.plan.labels.Labelled.{Labelled};
+    ghost use Rattle.pf_script.specs.Plan.Labels.{place_of_label};
 
     ghost Value = { List Labelled };
 
     ghost view = { λ l. l.all.items };
+
+    ghost invariant = { λ l. ((label : List ℕ) → get_by_text l.places label ≡ place_of_label l.all.items label) × All (λ e. is_text e.name ≡ true) l.all.items };
 }
 
 impl Labels {
-    ghost use Rattle.std.specs.Prelude.{◌≡◌, [], ◌∷◌, ◌++◌, OnOk};
-    ghost use Rattle.pf_script.specs.Plan.Labels.{number_of_label};
+    ghost use Rattle.std.specs.Prelude.{◌≡◌, [], ◌∷◌, ◌++◌, None, Some, true, OnOk};
+    ghost use Rattle.pf_vocabulary.specs.Names.Text.{is_text};
+    ghost use Rattle.pf_script.specs.Plan.Labels.{labels_with, number_of_label, place_of_label};
 
     /// No labels.
     pub fn new(alloc: Global) -> Self
         ensures { result ≡ [] }
     {
         Labels {
+            alloc,
             all: Vec::new(alloc),
+            places: BTreeMap::new(alloc),
         }
     }
 
-    /// The labels, in the order in which they were given.
+    /// The labels, in the order in which they were given first.
     pub fn all(&self) -> &[Labelled]
         ensures { result.now ≡ self.now }
     {
@@ -50,23 +63,57 @@ impl Labels {
     pub fn number_of(&self, label: &[u8]) -> Option<u64>
         ensures { result ≡ number_of_label self.now label.now }
     {
-        for labelled in &self.all {
-            if labelled.name.is(label) {
-                return Some(labelled.number);
-            }
-        }
-        None
+        let place = self.place_of(label)?;
+        Some(self.all[place].number)
     }
 
-    /// Adds a label.
+    /// The place of a label among all.
+    fn place_of(&self, label: &[u8]) -> Option<usize>
+        ensures { result ≡ place_of_label self.now label.now }
+    {
+        let places = &self.places;
+        let label = Name::new(label)?;
+        places.get(label.as_str()).copied()
+    }
+
+    /// Gives a label to the event of this number: one that is there goes on to it, but where the number is 0, as the insert was
+    /// refused.
     ///
     /// # Errors
     ///
     /// Where memory is refused.
-    pub fn push(&mut self, name: Name, number: u64) -> Result<(), AllocError>
+    pub fn give(&mut self, name: Name, number: u64) -> Result<(), AllocError>
+        ensures { OnOk result (self.new ≡ labels_with name number self.old) }
+    {
+        match self.place_of(name.as_bytes()) {
+            Some(place) => {
+                self.go_on(&name, place, number);
+                Ok(())
+            }
+            None => self.push(name, number),
+        }
+    }
+
+    /// A label, which is at this place, goes on to the event of this number, but where that is 0.
+    fn go_on(&mut self, name: &Name, place: usize, number: u64)
+        requires { place_of_label self.old name.now ≡ Some place }
+        ensures { self.new ≡ labels_with name.now number self.old }
+    {
+        if number != 0 {
+            self.all[place].number = number;
+        }
+    }
+
+    /// Adds a label that is not there.
+    fn push(&mut self, name: Name, number: u64) -> Result<(), AllocError>
+        requires new { place_of_label self.old name ≡ None }
+        requires text { is_text name ≡ true }
         ensures { OnOk result (self.new ≡ self.old ++ record { name = name; number = number } ∷ []) }
     {
-        self.all.push(Labelled { name, number })?;
+        let label = String::from_str(self.alloc, name.as_str())?;
+        self.all.reserve(1)?;
+        self.places.insert(label, self.all.len())?;
+        self.all.push_reserved(Labelled { name, number });
         Ok(())
     }
 }

@@ -11,7 +11,7 @@ pub(crate) fn expect_length(
     most: usize,
     reason: Reason,
 ) -> Result<(), RecordFault>
-    requires { (least ≤ 9) × (most ≤ 9) }
+    requires { (least ≤ 10) × (most ≤ 10) }
     ensures { result ≡ of_length fields.now least most reason }
 {
     let length = fields.len();
@@ -31,7 +31,7 @@ pub(crate) fn parse_number(
     fields: &Fields,
     place: usize,
 ) -> Result<u64, RecordFault>
-    requires { place ≤ 9 }
+    requires { place ≤ 10 }
     ensures { result ≡ number_or reason fields.now place }
 {
     fields.number(place).ok_or(fault_at(place, reason))
@@ -45,7 +45,7 @@ pub(crate) fn parse_within(
     place: usize,
     most: u64,
 ) -> Result<u64, RecordFault>
-    requires { place ≤ 9 }
+    requires { place ≤ 10 }
     ensures number { result ≡ number_within reason fields.now place most }
     ensures within { IfOk result (λ n. (1 ≤ n) × (n ≤ most)) }
 {
@@ -58,7 +58,7 @@ pub(crate) fn parse_within(
 
 /// A fault of the field at a place from 0.
 pub(crate) fn fault_at(place: usize, reason: Reason) -> RecordFault
-    requires { place ≤ 9 }
+    requires { place ≤ 10 }
     ensures { result ≡ fault_at place reason }
 {
     RecordFault {

@@ -1,6 +1,6 @@
 ghost use Rattle.std.specs.Prelude.{◌≡◌, ◌≤◌, ◌*◌, IfOk};
 ghost use Rattle.pf_scenario.specs.System.{IsInLimits, wide_horizon};
-ghost use Rattle.pf_script.specs.Plan.Parsing.{alter_at, cap_at, edit_at, every_at, free_name_at, id_at, label_at, labelled_at, name_at, nameless_at, names_record, opening_at, record_at, said_at, settings_at, slot_at, steps_at, strike_at};
+ghost use Rattle.pf_script.specs.Plan.Parsing.{alter_at, cap_at, edit_at, every_at, first_labelled_at, free_name_at, given_label_at, id_at, label_at, labelled, labelled_again_at, labelled_at, name_at, nameless_at, names_record, opening_at, record_at, said_at, settings_at, slot_at, steps_at, strike_at};
 
 use crate::fields::Fields;
 use crate::line::Line;
@@ -13,6 +13,7 @@ use crate::plan::state::Progress;
 use crate::record::ScriptSettings;
 use crate::version::Version;
 use pf_scenario::change::Change;
+use pf_scenario::event::Event;
 use pf_scenario::limits::LARGEST_DISTANCE;
 use pf_scenario::settings::{LARGEST_CAP, MOST_PROCESSORS, Settings, WIDE_HORIZON};
 use pf_vocabulary::names::name::{Name, is_letter_first};
@@ -260,7 +261,7 @@ fn parse_alter(progress: &Progress, fields: &Fields, place: usize) -> Result<Cha
     Ok(Change::Alter(id, event))
 }
 
-/// The change `label,TEXT,` and an event.
+/// A labelled event.
 #[tactic(auto, unfolding(crate::specs::Plan::Parsing::labelled_at))]
 fn parse_labelled(
     progress: &Progress,
@@ -271,10 +272,50 @@ fn parse_labelled(
     requires { place ≤ 1 }
     ensures { result ≡ labelled_at progress.now strict fields.now place }
 {
+    if fields.is_word(place + 2, b"again") {
+        return parse_labelled_again(progress, strict, fields, place);
+    }
+    parse_first_labelled(progress, strict, fields, place)
+}
+
+/// The change `label,TEXT,` and an event.
+#[tactic(auto, unfolding(crate::specs::Plan::Parsing::first_labelled_at))]
+fn parse_first_labelled(
+    progress: &Progress,
+    strict: bool,
+    fields: &Fields,
+    place: usize,
+) -> Result<Said, RecordFault>
+    requires { place ≤ 1 }
+    ensures { result ≡ first_labelled_at progress.now strict fields.now place }
+{
     let label = parse_label(&progress.labels, fields, place + 1)?;
     let event = parse_event(&progress.names, Reason::NoEvent, fields, place + 2)?;
+    Ok(labelled(strict, label, event))
+}
+
+/// The change `label,TEXT,again,` and an event.
+#[tactic(auto, unfolding(crate::specs::Plan::Parsing::labelled_again_at))]
+fn parse_labelled_again(
+    progress: &Progress,
+    strict: bool,
+    fields: &Fields,
+    place: usize,
+) -> Result<Said, RecordFault>
+    requires { place ≤ 1 }
+    ensures { result ≡ labelled_again_at progress.now strict fields.now place }
+{
+    let label = parse_given_label(&progress.labels, fields, place + 1)?;
+    let event = parse_event(&progress.names, Reason::NoEvent, fields, place + 3)?;
+    Ok(labelled(strict, label, event))
+}
+
+/// The insert of an event that goes by a label.
+fn labelled(strict: bool, label: Name, event: Event) -> Said
+    ensures { result ≡ labelled strict label event }
+{
     let change = Change::Insert(event);
-    Ok(Said::Asks(Line::Edit { change, strict }, Some(label)))
+    Said::Asks(Line::Edit { change, strict }, Some(label))
 }
 
 /// A label that was not given yet.
@@ -289,6 +330,22 @@ fn parse_label(labels: &Labels, fields: &Fields, place: usize) -> Result<Name, R
     };
     if labels.number_of(field).is_some() {
         return Err(fault_at(place, Reason::LabelTaken));
+    }
+    Ok(label)
+}
+
+/// A label that was given.
+#[tactic(auto, unfolding(crate::specs::Plan::Parsing::given_label_at))]
+fn parse_given_label(labels: &Labels, fields: &Fields, place: usize) -> Result<Name, RecordFault>
+    requires { place ≤ 9 }
+    ensures { result ≡ given_label_at labels.now fields.now place }
+{
+    let field = fields.field(place);
+    let Some(label) = Name::new(field) else {
+        return Err(fault_at(place, Reason::NoLabel));
+    };
+    if labels.number_of(field).is_none() {
+        return Err(fault_at(place, Reason::LabelUnknown));
     }
     Ok(label)
 }

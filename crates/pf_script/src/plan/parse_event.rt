@@ -16,7 +16,7 @@ pub(crate) fn parse_event(
     fields: &Fields,
     place: usize,
 ) -> Result<Event, RecordFault>
-    requires { place ≤ 3 }
+    requires { place ≤ 4 }
     ensures { result ≡ event_at names.now none fields.now place }
 {
     if fields.is_word(place, b"join") {
@@ -37,7 +37,7 @@ pub(crate) fn parse_event(
 /// The event `join,SLOT,TASK,COST,PERIOD`, perhaps with `,EARLY`.
 #[tactic(auto, unfolding(crate::specs::Plan::Parsing::join_at))]
 fn parse_join(names: &Names, fields: &Fields, place: usize) -> Result<Event, RecordFault>
-    requires { place ≤ 3 }
+    requires { place ≤ 4 }
     ensures { result ≡ join_at names.now fields.now place }
 {
     expect_length(fields, place + 5, place + 6, Reason::JoinFields(place + 5))?;
@@ -65,7 +65,7 @@ fn parse_early(fields: &Fields, place: usize) -> Result<u64, RecordFault>
 /// The event `leave,SLOT,TASK`.
 #[tactic(auto, unfolding(crate::specs::Plan::Parsing::leave_at))]
 fn parse_leave(names: &Names, fields: &Fields, place: usize) -> Result<Event, RecordFault>
-    requires { place ≤ 3 }
+    requires { place ≤ 4 }
     ensures { result ≡ leave_at names.now fields.now place }
 {
     expect_length(fields, place + 3, place + 3, Reason::Fields(place + 3))?;
@@ -78,7 +78,7 @@ fn parse_leave(names: &Names, fields: &Fields, place: usize) -> Result<Event, Re
 /// The event `delay,SLOT,TASK,BY`.
 #[tactic(auto, unfolding(crate::specs::Plan::Parsing::delay_at))]
 fn parse_delay(names: &Names, fields: &Fields, place: usize) -> Result<Event, RecordFault>
-    requires { place ≤ 3 }
+    requires { place ≤ 4 }
     ensures { result ≡ delay_at names.now fields.now place }
 {
     expect_length(fields, place + 4, place + 4, Reason::Fields(place + 4))?;
@@ -92,7 +92,7 @@ fn parse_delay(names: &Names, fields: &Fields, place: usize) -> Result<Event, Re
 /// The event `limit,SLOT,COUNT`.
 #[tactic(auto, unfolding(crate::specs::Plan::Parsing::limit_at))]
 fn parse_limit(fields: &Fields, place: usize) -> Result<Event, RecordFault>
-    requires { place ≤ 3 }
+    requires { place ≤ 4 }
     ensures { result ≡ limit_at fields.now place }
 {
     expect_length(fields, place + 3, place + 3, Reason::Fields(place + 3))?;

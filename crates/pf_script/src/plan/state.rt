@@ -18,7 +18,7 @@ pub struct Progress {
     pub slot: Option<SlotLength>,
     /// The names of tasks.
     pub names: Names,
-    /// The labels of events, each with the number that its insert was given.
+    /// The labels of events, each with the number that the insert of its event was given.
     pub labels: Labels,
 }
 
@@ -84,7 +84,7 @@ impl Progress {
             Said::Asks(_, label) => {
                 self.begun = true;
                 if let Some(label) = label {
-                    self.labels.push(label, number)?;
+                    self.labels.give(label, number)?;
                 }
             }
         }
