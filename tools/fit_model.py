@@ -7,21 +7,10 @@ import messages_model
 import model
 import sentences
 from pictures import in_use
+from sentences import cut, up
 
 KEYS = ("quanta", "migrations", "preemptions", "jobs", "response_min", "response_max", "missed", "tardiness_max", "lag_min", "lag_max")
 OVER_CAPACITY = 20  # a denial
-
-
-def up(a, b, places):
-    """a / b with so many decimals, rounded up."""
-    parts = model.ceil(a * 10**places, b)
-    return f"{parts // 10**places}.{parts % 10**places:0{places}}"
-
-
-def cut(a, b, places):
-    """a / b with so many decimals, the rest cut off."""
-    parts = abs(a) * 10**places // b
-    return f"{'-' if a < 0 < parts else ''}{parts // 10**places}.{parts % 10**places:0{places}}"
 
 
 @dataclass(frozen=True)

@@ -1,4 +1,4 @@
-"""What pfair must tell behind a run in notes, and by `check --run`, from docs/COMMANDS.md: over the lines of sentences.py."""
+"""What pfair must tell behind a run in notes, and by `check --run`, from docs/COMMANDS.md: over the messages of sentences.py."""
 import messages_model
 import model
 import sentences
@@ -16,7 +16,7 @@ def meaning(script, checks):
         return (written, b"", status) if checks else (b"", messages_model.first(script), status)
     run = sentences.carried(script)
     if checks:
-        lines = [*sentences.told(run), f"{len(run.lines)} records, 0 faults, {sums(run)}"]
+        lines = [*sentences.in_whole(sentences.told(run)), f"{len(run.lines)} records, 0 faults, {sums(run)}"]
         return text_of(lines), b"", int(len(lines) > 1)
     return model.denials_table(run.placed).encode(), notes(script), 0
 

@@ -1,21 +1,41 @@
 """What pfair must tell of what was refused, denied and missed in a script, from docs/COMMANDS.md, in the plainest way."""
+import math
+import re
 from dataclasses import dataclass
 from functools import lru_cache
 
 import model
 import plans
 
-# The most lines that a list has, but in `pfair check --run`.
-MOST_LINES = 20
+# The most messages that a list has, but in `pfair check --run`.
+MOST_MESSAGES = 20
+# Why an event would be denied.
+WOULD_BE_DENIED = {20: "it asks for more than is free", 21: "its task is not inside", 22: "it leaves too early", 23: "its quantum was released already"}
+
+
+def up(a, b, places):
+    """a / b with so many decimals, rounded up."""
+    return with_decimals(-(-a * 10**places // b), places)
+
+
+def cut(a, b, places):
+    """a / b with so many decimals, the rest cut off: towards 0, and with a sign only where a digit that is shown is not 0."""
+    parts = abs(a) * 10**places // b
+    return ("-" if a < 0 and parts else "") + with_decimals(parts, places)
+
+
+def with_decimals(parts, places):
+    return f"{parts // 10**places}.{parts % 10**places:0{places}}"
 
 
 @dataclass(frozen=True)
 class Carried:
-    """A script that was carried out: its desk, the run at its end, the line of each record, names by task, and the length of a
-    slot, where it was told."""
+    """A script that was carried out: its desk, the run at its end, the line and the column of each record, names by task, and the
+    length of a slot, where it was told."""
     desk: model.Desk
     placed: model.Placed
     lines: dict
+    columns: dict
     names: dict
     slot: tuple | None
 
@@ -62,7 +82,14 @@ def carried(script):
     if not isinstance(desk, model.Desk):
         return desk
     lines = {number: line for number, (line, _) in enumerate(lined, 1)}
-    return Carried(desk, model.run_of(desk.scenario, desk.now), lines, told.names, told.slot)
+    columns = {number: first_column(script, line) for number, line in lines.items()}
+    return Carried(desk, model.run_of(desk.scenario, desk.now), lines, columns, told.names, told.slot)
+
+
+def first_column(script, line):
+    """The column of a line's first byte that is no blank, as a plan's record has them before it."""
+    text = re.split(b"\r\n|\r|\n", script.removeprefix(b"\xef\xbb\xbf"))[line - 1]
+    return len(text) - len(text.lstrip(b" \t")) + 1
 
 
 def is_good(script):
@@ -80,7 +107,7 @@ def record_of(event):
 @dataclass(frozen=True)
 class Refusal:
     """A record of which a command was refused: the fault's number, of a bad weight its number, the event that is named, of a
-    strict change the denial's number, and of steps how many were refused."""
+    strict change the denial's number, of steps how many were refused, and what would be right, where that can be said."""
     record: int
     code: int
     weight: int | None
@@ -88,6 +115,7 @@ class Refusal:
     denial: int | None
     steps: int | None
     sentence: str
+    hint: str | None
 
 
 def refusals(script):
@@ -103,16 +131,17 @@ def refusal_of(script, answered, code, more, count):
     if code == 30:
         horizon = answered.before.settings.horizon
         sentence = f"{horizon} slots are the horizon, {count} of {answered.command} steps were refused"
-        return Refusal(answered.record, code, None, None, None, count, sentence)
+        return Refusal(answered.record, code, None, None, None, count, sentence, None)
     change, before = answered.command, answered.before
     if code == 31:
         after, _ = before.changed(change)
-        sentence = f"event {more[0]}, {record_of(after.events[more[0]])}, would be denied, {more[1]} {model.NAMES[more[1]]}"
-        return Refusal(answered.record, code, None, more[0], more[1], None, sentence)
+        sentence = f"event {more[0]}, {record_of(after.events[more[0]])}, would be denied: {WOULD_BE_DENIED[more[1]]}"
+        return Refusal(answered.record, code, None, more[0], more[1], None, sentence, None)
     other = next((number for number, event in before.events.items() if code in (16, 17) and number != change.number
                   and (event.kind, event.task) == (change.event.kind, change.event.task)), None)
     sentence = edit_sentence(script, change, before, code, more, other)
-    return Refusal(answered.record, code, more[0] if code == 15 else None, other, None, None, sentence)
+    hint = edit_hint(change, before, code, more, other)
+    return Refusal(answered.record, code, more[0] if code == 15 else None, other, None, None, sentence, hint)
 
 
 def edit_sentence(script, change, before, code, more, other):
@@ -137,11 +166,27 @@ def edit_sentence(script, change, before, code, more, other):
     }[code]
 
 
+def edit_hint(change, before, code, more, other):
+    """What would be right, or None."""
+    if code in (16, 17):
+        word = "join" if code == 16 else "leave"
+        return f"alter,{other},{word},.. changes that {word}"
+    return period_hint(before.settings.base, change.event.period) if code == 15 and more[0] == 4 else None
+
+
+def period_hint(base, period):
+    """The periods of the base next to one that it has not, and the least base that both divide."""
+    divisors = sorted({it for d in range(1, math.isqrt(base) + 1) if base % d == 0 for it in (d, base // d)})
+    below, above, common = max(it for it in divisors if it < period), [it for it in divisors if it > period][:1], math.lcm(base, period)
+    return f"a period of {' or '.join(map(str, [below, *above]))}" + (f", or the base {common}" if common <= 2**30 else "")
+
+
 # Denied events
 
 @dataclass(frozen=True)
 class Denial:
-    """An event that is denied: its event, the denial's number, and what the sentence rests on."""
+    """An event that is denied: its event, the denial's number, what the sentence rests on, and what would be right, where that can be
+    said."""
     event: model.Event
     code: int
     asked: int | None
@@ -149,6 +194,7 @@ class Denial:
     from_slot: int | None
     released: int | None
     sentence: str
+    hint: str | None = None
 
 
 def denials(script):
@@ -166,19 +212,27 @@ def denial_of(script, event, code):
     settings, point = script.desk.scenario.settings, run_before(script, event)
     if code == 20:
         asked, free = event.weight().units(settings.base), settings.cap - point.load()
-        return Denial(event, code, asked, free, None, None, f"it asks for {asked} units, and {free} of the cap {settings.cap} are free")
+        sentence = f"it asks for {up(asked, settings.base, 4)} of a processor, and {cut(free, settings.base, 4)} are free"
+        cost = free // (settings.base // event.period)
+        return Denial(event, code, asked, free, None, None, sentence, f"a cost of {cost} would be let in" if cost else None)
     if code == 21:
         join = script.event_of("join", event.task)
         is_later = join is not None and join.run_order() > event.run_order()
-        return Denial(event, code, None, None, None, None, absence(script, event.task, is_later))
+        return Denial(event, code, None, None, None, None, absence(script, event.task, is_later, event.slot))
     last = point.done(event.task, event.slot)
     if code == 23:
         released = point.release(event.task, last + 1)
-        return Denial(event, code, None, None, None, released, f"{script.place(event.task, last + 1)} was released in slot {released}")
-    bound, later = point.free_from(event.task, event.slot), from_slot(script, event)
-    more = f"the next slot in which it may leave is {later}" if later else f"it may leave in no slot behind it up to {last_slot(script)}"
-    sentence = f"{script.place(event.task, last)} ran last, and slot {event.slot} is below {bound}; {more}"
+        return Denial(event, code, None, None, None, released, f"{script.place(event.task, last + 1)} was released already, in slot {released}")
+    later = from_slot(script, event)
+    more = f"the next slot in which it may leave is {later}" if later else never_text(script, event)
+    sentence = f"{script.place(event.task, last)} ran in slot {script.placed.run.slot_of(event.task, last)}: {more}"
     return Denial(event, code, None, None, later, None, sentence)
+
+
+def never_text(script, leave):
+    """From which slot on a task may leave that may leave in none of those stepped."""
+    horizon, bound = script.desk.scenario.settings.horizon, script.placed.run.free_from(leave.task, last_slot(script))
+    return f"it may leave in slot {bound} or later, which is not stepped yet" if bound < horizon else f"it may leave in no slot below the horizon {horizon}"
 
 
 def last_slot(script):
@@ -192,13 +246,14 @@ def from_slot(script, leave):
     return next((t for t in range(leave.slot, last_slot(script) + 1) if run.free_from(leave.task, t) <= t), None)
 
 
-def absence(script, task, is_later):
-    """Why a task is not inside, at a point before its join or behind it."""
+def absence(script, task, is_later, slot):
+    """Why a task is not inside, at a point of this slot, before its join or behind it."""
     join, leave = script.event_of("join", task), script.event_of("leave", task)
     if join is None:
         return f"no join of {script.task(task)} is held"
     if is_later:
-        return f"{script.task(task)} joins in slot {join.slot} (event {join.number})"
+        there = "in that slot, and leaves come before joins" if join.slot == slot else f"later, in slot {join.slot}"
+        return f"{script.task(task)} joins {there} (event {join.number})"
     if any(number == join.number for _, number, _ in script.placed.run.denials):
         return f"the join of {script.task(task)} in slot {join.slot} (event {join.number}) is denied"
     return f"{script.task(task)} left in slot {leave.slot} (event {leave.number})"
@@ -225,27 +280,36 @@ def misses(script):
     return list(found.values())
 
 
-# Lines
+# Messages
 
 def told(script):
-    """All lines of what was refused, denied and missed, of a script on standard input."""
+    """All messages of what was refused, denied and missed, of a script on standard input, each as its lines."""
     makers = script.makers()
 
     def front(record):
-        return f"-:{script.lines[record]}: record {record}"
+        return f"-:{script.lines[record]}:{script.columns[record]}"
 
     for it in refusals(script):
-        yield f"{front(it.record)}: refused {it.code} {model.NAMES[it.code]}: {it.sentence}"
+        yield [f"{front(it.record)}: refused: {it.sentence}", *hint_lines(it.hint)]
     for it in denials(script):
         event = f"event {it.event.number}, {record_of(it.event)}"
-        yield f"{front(makers[it.event.number])}: {event}: denied {it.code} {model.NAMES[it.code]}: {it.sentence}"
+        yield [f"{front(makers[it.event.number])}: denied: {event}: {it.sentence}", *hint_lines(it.hint)]
     for it in misses(script):
         record = makers[script.placed.run.join_of(it.task).number]
         ran = "did not run" if it.ran is None else f"ran in slot {it.ran}"
-        yield f"{front(record)}, {script.task(it.task)}: missed {script.place(it.task, it.sub)}, due {it.deadline}, {ran}, {it.windows} in all"
+        yield [f"{front(record)}: missed: {script.place(it.task, it.sub)} had to run before slot {it.deadline} and {ran}; {it.windows} in all"]
 
 
-def in_short(lines):
-    """The first of the lines, and how many more there are."""
-    more = len(lines) - MOST_LINES
-    return lines[:MOST_LINES] + ([f"and {more} more"] if more > 0 else [])
+def hint_lines(hint):
+    return [f"  hint: {hint}"] if hint else []
+
+
+def in_whole(messages):
+    """The lines of all messages."""
+    return [line for message in messages for line in message]
+
+
+def in_short(messages):
+    """The lines of the first messages, and how many more there are."""
+    more = len(messages) - MOST_MESSAGES
+    return in_whole(messages[:MOST_MESSAGES]) + ([f"and {more} more"] if more > 0 else [])

@@ -130,7 +130,7 @@ class Why:
             return at.rank, f"{self.script.place(task, at.subtask.i)} has rank {at.rank} of {len(self.ranking)}, {at.answer}"
         if not self.run.is_inside(task):
             join = self.script.event_of("join", task)
-            return None, sentences.absence(self.script, task, join is not None and join.slot > self.slot)
+            return None, sentences.absence(self.script, task, join is not None and join.slot > self.slot, self.slot)
         return None, self.upcoming(task)
 
     def upcoming(self, task):
@@ -169,7 +169,7 @@ def ranking_lines(why):
 
 
 def event_line(event, denial):
-    outcome = f"denied {denial.code} {model.NAMES[denial.code]}: {denial.sentence}" if denial else "taken"
+    outcome = f"denied: {denial.sentence}" if denial else "taken"
     return f"event {event.number}, {sentences.record_of(event)}: {outcome}"
 
 

@@ -16,7 +16,7 @@ use Rattle.pf_vocabulary.specs.declared.fault.answer.Answer.{Answer}
 use Rattle.pf_vocabulary.specs.declared.fault.fault.Fault.{Fault}
 use Rattle.pf_vocabulary.specs.declared.fault.status.Status.TheVariants.{BadScript}
 use Rattle.pf_plain_script.specs.declared.plain.PlainScript.{PlainScript}
-use Rattle.pf_plain_script.specs.Plain.{MakesPlain, Plain, plain, plain_behind, plain_of, with_heading}
+use Rattle.pf_plain_script.specs.Plain.{MakesPlain, Plain, plain, first_column, plain_behind, plain_of, with_heading}
 use Rattle.pf_text.specs.Page.{table_text}
 use Rattle.pf_check_run.specs.Answers.{Carries, CarriesScript, IsAnswer, IsStopped, NotRunBy}
 use Rattle.pf_check_run.proofs.Unnumbered.{none_kind, of_memory}
@@ -29,21 +29,21 @@ carried_answers (Ok a) IsCarried records [] found finds clean h = rw finds.count
 carried_answers (Ok a) IsCarried records (m ∷ messages) found finds clean h = let bad : true ≡ false = sym clean ∙ finds.clean in cc
 
 -- Use: a script of version 1 or 2 was, ..
-pub own_carried : (r : Result Answer Fault) (q : Option Plain) (file script : List ℕ) (records : ℕ) (messages : List FaultMessage) (found : Found)
-    → MakesPlain None q → Finds records messages found → is_clean found ≡ true → IfOk r (Carries file None [] script found.records)
-    → IfOk r (IsAnswer records messages (CarriesScript q file script records))
-own_carried r None file script records messages found made finds clean h =
-    carried_answers r (λ n. Carries file None [] script n) records messages found finds clean h
-own_carried r (Some p) file script records messages found made finds clean h = absurd made
+pub own_carried : (r : Result Answer Fault) (q : Option Plain) (file : List ℕ) (hints : Bool) (script : List ℕ) (records : ℕ) (messages : List FaultMessage) (found : Found)
+    → MakesPlain None q → Finds records messages found → is_clean found ≡ true → IfOk r (Carries file hints None [] script found.records)
+    → IfOk r (IsAnswer records messages (CarriesScript q file hints script records))
+own_carried r None file hints script records messages found made finds clean h =
+    carried_answers r (λ n. Carries file hints None [] script n) records messages found finds clean h
+own_carried r (Some p) file hints script records messages found made finds clean h = absurd made
 
 -- .. and a plan by the one that belongs to it.
-pub plan_carried : (r : Result Answer Fault) (q : Option Plain) (file script : List ℕ) (s : PlainScript) (records : ℕ) (messages : List FaultMessage) (found : Found)
+pub plan_carried : (r : Result Answer Fault) (q : Option Plain) (file : List ℕ) (hints : Bool) (script : List ℕ) (s : PlainScript) (records : ℕ) (messages : List FaultMessage) (found : Found)
     → MakesPlain (Some s) q → Finds records messages found → is_clean found ≡ true
-    → IfOk r (Carries file (Some s.origins.items) s.titles.names s.text.items found.records)
-    → IfOk r (IsAnswer records messages (CarriesScript q file script records))
-plan_carried r None file script s records messages found made finds clean h = absurd made
-plan_carried r (Some p) file script s records messages found made finds clean h =
-    carried_answers r (λ n. Carries file (Some p.origins) p.titles.names (table_text p.records) n) records messages found finds clean
+    → IfOk r (Carries file hints (Some s.origins.items) s.titles.names s.text.items found.records)
+    → IfOk r (IsAnswer records messages (CarriesScript q file hints script records))
+plan_carried r None file hints script s records messages found made finds clean h = absurd made
+plan_carried r (Some p) file hints script s records messages found made finds clean h =
+    carried_answers r (λ n. Carries file hints (Some p.origins) p.titles.names (table_text p.records) n) records messages found finds clean
     (rw (made.text, made.origins, made.titles) at h)
 
 -- Use: one with faults was not.
@@ -65,13 +65,13 @@ none_told file hints script plain h =
     none_of t (faults script) (rw plain at (none_kind file hints (file_kind file hints script) (record_messages t) h))
 
 -- a text to which no script of version 2 belongs is no plan
-no_plan : (rs : List Row) (end : ℕ) → plain_of end rs ≡ None → is_plan_heading (first_fields rs) ≡ false
+no_plan : (column : ℕ → ℕ) (rs : List Row) (end : ℕ) → plain_of column end rs ≡ None → is_plan_heading (first_fields rs) ≡ false
 unfolding is_plan_heading is_word
-no_plan [] end e = refl
-no_plan (row ∷ rest) end e = by (is_plan_heading row.fields) refl e
+no_plan column [] end e = refl
+no_plan column (row ∷ rest) end e = by (is_plan_heading row.fields) refl e
   where
     made : Plain
-    made = with_heading row.line (plain_behind (heading_fault row.fields) row.line end rest)
+    made = with_heading column row.line (plain_behind column (heading_fault row.fields) row.line end rest)
 
     by : (b : Bool) → is_plan_heading row.fields ≡ b → (if b then Some made else None) ≡ None → is_plan_heading row.fields ≡ false
     by true is e = let bad : Some made ≡ None = e in cc
@@ -84,7 +84,7 @@ pub own_stopped : {A : Type 0} (answer : Result A Fault) (file : List ℕ) (hint
 own_stopped (Ok a) file hints script records found made finds clean h = tt
 own_stopped (Err fault) file hints script records found made finds clean h =
     let none : plain script ≡ None = by (plain script) made in
-    let plain = no_plan (rows script).rows (rows script).end none in
+    let plain = no_plan (first_column script) (rows script).rows (rows script).end none in
     inl (of_memory (told script).rest.fault fault (rw (none_told file hints script plain (sym finds.clean ∙ clean)) refl) h)
   where
     by : (q : Option Plain) → MakesPlain None q → q ≡ None

@@ -16,7 +16,7 @@ use Rattle.pf_check_run.specs.Answers.{IsStopped, IsStoppedWith}
 use Rattle.pf_script.specs.Check.Found.{Finds, is_clean, is_empty}
 use Rattle.pf_plain_script.specs.declared.origin.Origin.{Origin}
 use Rattle.pf_plain_script.specs.declared.plain.PlainScript.{PlainScript}
-use Rattle.pf_plain_script.specs.Plain.{Course, MakesPlain, Plain, course_behind, ended, given, plain, plain_behind, plain_from, plain_next, plain_of, start, with_heading}
+use Rattle.pf_plain_script.specs.Plain.{Course, MakesPlain, Plain, course_behind, ended, first_column, given, origin_at, plain, plain_behind, plain_from, plain_next, plain_of, start, with_heading}
 use Rattle.pf_version_laws.specs.Retold.{IsSameFault}
 use Rattle.pf_version_laws.proofs.Whole.{scripts_are_retold}
 use Rattle.pf_text.specs.Rows.Rows.{Row, rows}
@@ -235,40 +235,40 @@ ended_good true p number end q origin h = refl
 ended_good false p number end q origin h =
     let bad : fault_shown p number (record { line = end; fields = [] }) (fault_at 0 NoSettings) ∷ [] ≡ [] = h in cc
 
-good_from : (rows : List Row) (p : Progress) (c : Course) (number n end : ℕ) → AreAlike p c.progress → faults_from p number end rows ≡ []
-    → (plain_from c n end rows).bad ≡ None
-good_from [] p c number n end alike h =
+good_from : (column : ℕ → ℕ) (rows : List Row) (p : Progress) (c : Course) (number n end : ℕ) → AreAlike p c.progress → faults_from p number end rows ≡ []
+    → (plain_from column c n end rows).bad ≡ None
+good_from column [] p c number n end alike h =
     subst
-    (λ (b : Bool). (ended c.progress (record { number = n; line = end }) (if b then None else Some (fault_at 0 NoSettings))).bad ≡ None)
-    (sym (ap (λ (r : Progress). r.opened) alike.same)) (ended_good p.opened p number end c.progress (record { number = n; line = end }) h)
-good_from (row ∷ rows) p c number n end alike h =
+    (λ (b : Bool). (ended c.progress (origin_at column n end) (if b then None else Some (fault_at 0 NoSettings))).bad ≡ None)
+    (sym (ap (λ (r : Progress). r.opened) alike.same)) (ended_good p.opened p number end c.progress (origin_at column n end) h)
+good_from column (row ∷ rows) p c number n end alike h =
     by (said_at p row.fields) (said_at c.progress row.fields) (read_alike p c.progress row.fields alike) h
-    (λ q next more. good_from rows q next (number + 1) (n + 1) end more)
+    (λ q next more. good_from column rows q next (number + 1) (n + 1) end more)
   where
     by : (r s : Result Said RecordFault) → BothRead LeadOn r s → faults_next (λ q. faults_from q (number + 1) end rows) p number row r ≡ []
-        → ((q : Progress) (next : Course) → AreAlike q next.progress → faults_from q (number + 1) end rows ≡ [] → (plain_from next (n + 1) end rows).bad ≡ None)
-        → (plain_next (λ next. plain_from next (n + 1) end rows) c (record { number = n; line = row.line }) s).bad ≡ None
+        → ((q : Progress) (next : Course) → AreAlike q next.progress → faults_from q (number + 1) end rows ≡ [] → (plain_from column next (n + 1) end rows).bad ≡ None)
+        → (plain_next (λ next. plain_from column next (n + 1) end rows) c (origin_at column n row.line) s).bad ≡ None
     by (Ok a) (Ok b) lead h more = more (progress_after p a 0) (course_behind c b) (alike_behind a b p c lead alike) h
     by (Ok a) (Err fault) lead h more = absurd lead
     by (Err fault) s lead h more = let bad : fault_shown p number row fault ∷ faults_from p (number + 1) end rows ≡ [] = h in cc
 
 -- the heading is the first of them
-good_behind : (fault : Option RecordFault) (line end : ℕ) (fields : List (List ℕ)) (rows : List Row)
+good_behind : (column : ℕ → ℕ) (fault : Option RecordFault) (line end : ℕ) (fields : List (List ℕ)) (rows : List Row)
     → with_fault at_heading (bad_if 1 line fault) fields (faults_from at_heading (number_after fault rows) end (rows_after fault rows)) ≡ []
-    → (plain_behind fault line end rows).bad ≡ None
-good_behind None line end fields rows h = good_from rows at_heading start 2 2 end (record { labels = []; same = refl; names = refl }) h
-good_behind (Some fault) line end fields rows h =
+    → (plain_behind column fault line end rows).bad ≡ None
+good_behind column None line end fields rows h = good_from column rows at_heading start 2 2 end (record { labels = []; same = refl; names = refl }) h
+good_behind column (Some fault) line end fields rows h =
     let bad : fault_shown at_heading 1 (record { line = line; fields = fields }) fault
     ∷ faults_from at_heading (number_after (Some fault) rows) end (rows_after (Some fault) rows) ≡ [] = h in cc
 
-good_of : (rs : List Row) (end : ℕ) (p : Plain) → plain_of end rs ≡ Some p → faults_of end rs ≡ [] → p.bad ≡ None
-good_of [] end p e h = let bad : None ≡ Some p = e in cc
-good_of (row ∷ rows) end p e h =
+good_of : (column : ℕ → ℕ) (rs : List Row) (end : ℕ) (p : Plain) → plain_of column end rs ≡ Some p → faults_of end rs ≡ [] → p.bad ≡ None
+good_of column [] end p e h = let bad : None ≡ Some p = e in cc
+good_of column (row ∷ rows) end p e h =
     let fault = heading_fault row.fields in
-    by (is_plan_heading row.fields) (plain_behind fault row.line end rows) (good_behind fault row.line end row.fields rows h) e
+    by (is_plan_heading row.fields) (plain_behind column fault row.line end rows) (good_behind column fault row.line end row.fields rows h) e
   where
-    by : (b : Bool) (made : Plain) → made.bad ≡ None → (if b then Some (with_heading row.line made) else None) ≡ Some p → p.bad ≡ None
-    by true made good e = let same : with_heading row.line made ≡ p = cc in subst (λ (q : Plain). q.bad ≡ None) same good
+    by : (b : Bool) (made : Plain) → made.bad ≡ None → (if b then Some (with_heading column row.line made) else None) ≡ Some p → p.bad ≡ None
+    by true made good e = let same : with_heading column row.line made ≡ p = cc in subst (λ (q : Plain). q.bad ≡ None) same good
     by false made good e = let bad : None ≡ Some p = e in cc
 
 no_fault : (origins : List Origin) (t : Option FaultTold) → IsSameFault 1 origins None t → t ≡ None
@@ -290,17 +290,17 @@ of_memory t why.GateShut none h = absurd h
 pub only_memory : (bytes : List ℕ) (p : Plain) (fault : Fault) → plain bytes ≡ Some p → faults (rows bytes) ≡ [] → Stops (told (table_text p.records)).rest.fault fault
     → fault ≡ why.NoMemory
 only_memory bytes p fault e h stops =
-    let good = good_of (rows bytes).rows (rows bytes).end p e h in
+    let good = good_of (first_column bytes) (rows bytes).rows (rows bytes).end p e h in
     let same = (scripts_are_retold bytes p e).fault in
     of_memory (told (table_text p.records)).rest.fault fault
     (no_fault p.origins (told (table_text p.records)).rest.fault (subst (λ (b : Option _). IsSameFault 1 p.origins b (told (table_text p.records)).rest.fault) good same)) stops
 
 -- a script to which one of version 2 belongs is a plan
-of_plan : (rs : List Row) (end : ℕ) (p : Plain) → plain_of end rs ≡ Some p → is_plan_heading (first_fields rs) ≡ true
-of_plan [] end p e = let bad : None ≡ Some p = e in cc
-of_plan (row ∷ rows) end p e = by (is_plan_heading row.fields) (plain_behind (heading_fault row.fields) row.line end rows) refl e
+of_plan : (column : ℕ → ℕ) (rs : List Row) (end : ℕ) (p : Plain) → plain_of column end rs ≡ Some p → is_plan_heading (first_fields rs) ≡ true
+of_plan column [] end p e = let bad : None ≡ Some p = e in cc
+of_plan column (row ∷ rows) end p e = by (is_plan_heading row.fields) (plain_behind column (heading_fault row.fields) row.line end rows) refl e
   where
-    by : (b : Bool) (made : Plain) → is_plan_heading row.fields ≡ b → (if b then Some (with_heading row.line made) else None) ≡ Some p
+    by : (b : Bool) (made : Plain) → is_plan_heading row.fields ≡ b → (if b then Some (with_heading column row.line made) else None) ≡ Some p
         → is_plan_heading row.fields ≡ true
     by true made is e = is
     by false made is e = let bad : None ≡ Some p = e in cc
@@ -339,4 +339,4 @@ plan_stopped (Err fault) file hints script records found s made finds clean h = 
     by None e made = absurd made
     by (Some p) e made =
         stopped_with script p s.text.items fault e
-        (none_told file hints script (of_plan (rows script).rows (rows script).end p e) (sym finds.clean ∙ clean)) made.text h
+        (none_told file hints script (of_plan (first_column script) (rows script).rows (rows script).end p e) (sym finds.clean ∙ clean)) made.text h

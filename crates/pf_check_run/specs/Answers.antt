@@ -45,8 +45,8 @@ totals_of records came seen =
     (length (misses_of seen.state.plan (run_of seen.state.plan seen.state.now)))
 
 -- the lines before it
-abbrev pub lists_of : List ℕ → List Named → Recounted → Seen → List ℕ
-lists_of file names came seen = lists_text file names came.made came.refusals seen
+abbrev pub lists_of : List ℕ → Bool → List Named → Recounted → Seen → List ℕ
+lists_of file hints names came seen = lists_text file hints names came.made came.refusals seen
 
 abbrev pub status_of_lines : List ℕ → Status
 status_of_lines [] = Done
@@ -55,13 +55,13 @@ status_of_lines (byte ∷ bytes) = BadScript
 -- a script of version 1 or 2 of this file, with so many records, was carried out: what was refused, denied and missed is told, of
 -- what was seen at its end, and of what its records came to. Where it belongs to a plan, `origins` are the records
 -- there that its own come from
-pub record Carries (file : List ℕ) (origins : Option (List Origin)) (names : List Named) (script : List ℕ) (records : ℕ) (answer : Answer) : Type 0 where
+pub record Carries (file : List ℕ) (hints : Bool) (origins : Option (List Origin)) (names : List Named) (script : List ℕ) (records : ℕ) (answer : Answer) : Type 0 where
   pub seen : Seen
   pub behind : IsSeenBehind (told script) seen
   pub came : Recounted
-  pub counted : Some came ≡ recounted file names origins most_lines false script
-  pub text : answer.text.items ≡ lists_of file names came seen ++ totals_of records came seen
-  pub ends : IsQuiet (status_of_lines (lists_of file names came seen)) answer.ending
+  pub counted : Some came ≡ recounted file hints names origins most_lines false script
+  pub text : answer.text.items ≡ lists_of file hints names came seen ++ totals_of records came seen
+  pub ends : IsQuiet (status_of_lines (lists_of file hints names came seen)) answer.ending
 
 -- the last line of a script that was not carried out
 unfoldable pub not_run_line : ℕ → ℕ → List ℕ
@@ -82,14 +82,14 @@ IsAnswer records [] IsCarried answer = IsCarried answer
 IsAnswer records (m ∷ faults) IsCarried answer = NotRun records (m ∷ faults) answer
 
 -- a script of this file, with so many records, was carried out: of a plan the script of version 2 that belongs to it
-abbrev pub CarriesScript : Option Plain → List ℕ → List ℕ → ℕ → Answer → Type 0
-CarriesScript None file script records answer = Carries file None [] script records answer
-CarriesScript (Some p) file script records answer = Carries file (Some p.origins) p.titles.names (table_text p.records) records answer
+abbrev pub CarriesScript : Option Plain → List ℕ → Bool → List ℕ → ℕ → Answer → Type 0
+CarriesScript None file hints script records answer = Carries file hints None [] script records answer
+CarriesScript (Some p) file hints script records answer = Carries file hints (Some p.origins) p.titles.names (table_text p.records) records answer
 
 -- the answer to a script of any version, of this file
 abbrev pub ChecksRun : List ℕ → Bool → List ℕ → Answer → Type 0
 ChecksRun file hints script answer =
-    IsAnswer (record_count script) (script_messages file hints script) (CarriesScript (plain script) file script (record_count script)) answer
+    IsAnswer (record_count script) (script_messages file hints script) (CarriesScript (plain script) file hints script (record_count script)) answer
 
 -- why a script of version 2 that belongs to a plan was not carried out: it is too long, or it stopped
 abbrev pub IsStoppedWith : List ℕ → Fault → Type 0

@@ -23,7 +23,8 @@ use pf_vocabulary::fault::status::Status;
 use pf_vocabulary::names::names::Names;
 use std::alloc::{AllocError, Global};
 
-/// Carries a script of version 1 or 2 of this file out, which has so many records, and tells what was refused, denied and missed.
+/// Carries a script of version 1 or 2 of this file out, which has so many records, and tells what was refused, denied and missed,
+/// with hints, where they are asked for.
 /// Where it belongs to a plan, `origins` are the records there that its own come from, and the names those of its
 /// tasks.
 ///
@@ -33,17 +34,18 @@ use std::alloc::{AllocError, Global};
 pub(crate) fn carried(
     alloc: Global,
     file: &[u8],
+    hints: bool,
     script: &[u8],
     origins: Option<&[Origin]>,
     names: &Names,
     records: u64,
 ) -> Result<Answer, Fault>
-    ensures made { IfOk result (Carries file.now (option_map (λ o. o.now) origins.entry) names.now script.now records) }
+    ensures made { IfOk result (Carries file.now hints (option_map (λ o. o.now) origins.entry) names.now script.now records) }
     ensures stopped { IfErr result (Stops (told script.now).rest.fault) }
     ensures unwritten { IfErr result IsUnwritten }
 {
     match carry(alloc, script) {
-        Ok(desk) => match desk_answer(alloc, file, script, origins, names, records, &desk) {
+        Ok(desk) => match desk_answer(alloc, file, hints, script, origins, names, records, &desk) {
             Ok(answer) => Ok(answer),
             Err(AllocError) => Err(Fault::NoMemory),
         },
@@ -59,10 +61,11 @@ pub(crate) fn carried(
 pub(crate) fn plan_carried(
     alloc: Global,
     file: &[u8],
+    hints: bool,
     plain: &PlainScript,
     records: u64,
 ) -> Result<Answer, Fault>
-    ensures made { IfOk result (Carries file.now (Some plain.now.origins.items) plain.now.titles.names plain.now.text.items records) }
+    ensures made { IfOk result (Carries file.now hints (Some plain.now.origins.items) plain.now.titles.names plain.now.text.items records) }
     ensures stopped { IfErr result (IsStoppedWith plain.now.text.items) }
     ensures unwritten { IfErr result IsUnwritten }
 {
@@ -73,6 +76,7 @@ pub(crate) fn plan_carried(
     carried(
         alloc,
         file,
+        hints,
         &plain.text,
         Some(origins),
         &plain.titles.names,
@@ -84,6 +88,7 @@ pub(crate) fn plan_carried(
 fn desk_answer(
     alloc: Global,
     file: &[u8],
+    hints: bool,
     script: &[u8],
     origins: Option<&[Origin]>,
     names: &Names,
@@ -91,11 +96,11 @@ fn desk_answer(
     desk: &Desk,
 ) -> Result<Answer, AllocError>
     requires { IsOf (told script.now) desk.now }
-    ensures { IfOk result (Carries file.now (option_map (λ o. o.now) origins.entry) names.now script.now records) }
+    ensures { IfOk result (Carries file.now hints (option_map (λ o. o.now) origins.entry) names.now script.now records) }
 {
-    let recount = recount_of(alloc, file, script, origins, names, desk)?;
+    let recount = recount_of(alloc, file, hints, script, origins, names, desk)?;
     let snapshot = desk.snapshot()?;
-    let mut text = lists_of(alloc, file, names, &recount, &snapshot)?;
+    let mut text = lists_of(alloc, file, hints, names, &recount, &snapshot)?;
     let status = status_of_lines(&text);
     push_totals(&mut text, records, &recount, &snapshot)?;
     let ending = Ending::quiet(alloc, status);
@@ -106,15 +111,26 @@ fn desk_answer(
 fn recount_of(
     alloc: Global,
     file: &[u8],
+    hints: bool,
     script: &[u8],
     origins: Option<&[Origin]>,
     names: &Names,
     desk: &Desk,
 ) -> Result<Recount, AllocError>
     requires { IsOf (told script.now) desk.now }
-    ensures { IfOk result (λ r. Some r ≡ recounted file.now names.now (option_map (λ o. o.now) origins.entry) most_lines false script.now) }
+    ensures { IfOk result (λ r. Some r ≡ recounted file.now hints names.now (option_map (λ o. o.now) origins.entry) most_lines false script.now) }
 {
-    let found = recount(alloc, file, names, script, origins, desk, u64::MAX, false)?;
+    let found = recount(
+        alloc,
+        file,
+        hints,
+        names,
+        script,
+        origins,
+        desk,
+        u64::MAX,
+        false,
+    )?;
     match found {
         Some(recount) => Ok(recount),
         None => unreachable!(),
@@ -125,15 +141,17 @@ fn recount_of(
 fn lists_of(
     alloc: Global,
     file: &[u8],
+    hints: bool,
     names: &Names,
     recount: &Recount,
     snapshot: &Snapshot,
 ) -> Result<Vec<u8>, AllocError>
-    ensures { IfOk result (λ text. text.items ≡ lists_of file.now names.now recount.now snapshot.now) }
+    ensures { IfOk result (λ text. text.items ≡ lists_of file.now hints names.now recount.now snapshot.now) }
 {
     lists(
         alloc,
         file,
+        hints,
         names,
         &recount.made,
         &recount.refusals,

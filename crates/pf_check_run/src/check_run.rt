@@ -33,7 +33,10 @@ pub fn check_run(alloc: Global, file: &[u8], script: &[u8], hints: bool) -> Resu
         return Ok(not_run(alloc, found)?);
     }
     match plain_script(alloc, script)? {
-        Some(plain) => plan_carried(alloc, file, &plain, found.records),
-        None => carried(alloc, file, script, None, &Names::new(alloc), found.records),
+        Some(plain) => plan_carried(alloc, file, hints, &plain, found.records),
+        None => {
+            let names = Names::new(alloc);
+            carried(alloc, file, hints, script, None, &names, found.records)
+        }
     }
 }

@@ -62,8 +62,8 @@ pub record DrillMade (script : List ℕ) (made : Result Answer Fault) : Type 0 w
   pub stopped : IfErr made (drill.Stops (SomeArrived (λ worker quantum. ⊥)) (script_asked script))
 
 -- the answer to whether the script in the file of this name fits; origins where it belongs to a plan
-pub record FitMade (format : FitFormat) (file : List ℕ) (origins : Option (List Origin)) (titles : Titles) (script : List ℕ) (made : Result Answer Fault) : Type 0 where
-  pub answer : IfOk made (fit.FitMade format file origins titles script)
+pub record FitMade (format : FitFormat) (file : List ℕ) (hints : Bool) (origins : Option (List Origin)) (titles : Titles) (script : List ℕ) (made : Result Answer Fault) : Type 0 where
+  pub answer : IfOk made (fit.FitMade format file hints origins titles script)
   pub stopped : IfErr made (carried.Stops (told script).rest.fault)
 
 -- the answer to a task with a script that is carried out and has these titles, in the file of this name, and what the writer took;
@@ -77,7 +77,7 @@ AnswersTask titles origins hints (Diff since options) file script answer old new
 AnswersTask titles origins hints Drill file script answer old new = (made : Result Answer Fault) × DrillMade script made × AnswersMade made answer old new
 AnswersTask titles origins hints (Convert conversion) file script answer old new = ⊥
 AnswersTask titles origins hints (Fit asked) file script answer old new =
-    (made : Result Answer Fault) × FitMade asked.format file origins titles script made × AnswersMade made answer old new
+    (made : Result Answer Fault) × FitMade asked.format file hints origins titles script made × AnswersMade made answer old new
 AnswersTask titles origins hints (Why question) file script answer old new =
     (made : Result Answer Fault) × WhyMade titles.names question script made × AnswersMade made answer old new
 

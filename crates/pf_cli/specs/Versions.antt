@@ -43,7 +43,7 @@ task_in p (Why question) = Why question
 abbrev pub number_from : List Origin → ℕ → ℕ
 number_from origins number =
     if (number == 0) || nat_lt (length origins) number then number
-    else (slice_index_or origins (number - 1) (record { number = number; line = 0 })).number
+    else (slice_index_or origins (number - 1) (record { number = number; line = 0; column = 0 })).number
 
 -- the same fault, with the number of the record that a bad one comes from
 abbrev pub numbered_fault : List Origin → Fault → Fault

@@ -60,7 +60,7 @@ pub(crate) fn do_task<H: AllocGlobal + Threads + Wait + Sync, W: Sink>(
         Task::Drill => TaskEnd::Other(write_answer(drill(rt, alloc, script, &OpenGate), writer)),
         Task::Check | Task::CheckRun | Task::Convert(_) => unreachable!(),
         Task::Fit(asked) => TaskEnd::Other(write_answer(
-            fit(alloc, asked.format, file, script, origins, titles),
+            fit(alloc, asked.format, file, hints, script, origins, titles),
             writer,
         )),
         Task::Why(question) => TaskEnd::Other(write_answer(

@@ -1,4 +1,4 @@
-ghost use Rattle.std.specs.Prelude.{◌≡◌, true, [], Some, map, IfOk};
+ghost use Rattle.std.specs.Prelude.{◌≡◌, false, true, [], Some, map, IfOk};
 ghost use Rattle.std.specs.Option.{option_map};
 ghost use Rattle.pf_script_run.specs.Carried.{IsOf};
 ghost use Rattle.pf_script_results.specs.Recount.{recounted};
@@ -47,10 +47,10 @@ fn recount_all(
     desk: &Desk,
 ) -> Result<Recount, AllocError>
     requires { IsOf (told script.now) desk.now }
-    ensures { IfOk result (λ r. Some r ≡ recounted [] [] (option_map (λ o. o.now) origins.entry) 0 true script.now) }
+    ensures { IfOk result (λ r. Some r ≡ recounted [] false [] (option_map (λ o. o.now) origins.entry) 0 true script.now) }
 {
     let names = Names::new(alloc);
-    let found = recount(alloc, b"", &names, script, origins, desk, 0, true)?;
+    let found = recount(alloc, b"", false, &names, script, origins, desk, 0, true)?;
     match found {
         Some(recount) => Ok(recount),
         None => unreachable!(),

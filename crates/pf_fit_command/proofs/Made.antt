@@ -1,5 +1,5 @@
 -- The answer to a script, of what its desk shows.
-use Rattle.std.proofs.Common.{◌≡◌, ℕ, List, Option, Some, None, length, refl, sym, ap, subst, ◌∙◌}
+use Rattle.std.proofs.Common.{◌≡◌, ℕ, Bool, List, Option, Some, None, length, refl, sym, ap, subst, ◌∙◌}
 use Rattle.pf_script_run.specs.Carried.{IsOf, Stops}
 use Rattle.pf_desk.specs.Desk.{Seen, Shown, StandsForHistory}
 use Rattle.pf_vocabulary.specs.Fault.Answers.{IsQuiet}
@@ -17,14 +17,14 @@ use Rattle.pf_verdict.specs.Findings.{Found, findings_of}
 use Rattle.pf_fit_command.specs.Fit.{FitMade, fit_of, most_lines, status_of_verdict, tells_all}
 
 -- Use: the answer of what was seen.
-pub made : (format : FitFormat) (file : List ℕ) (origins : Option (List Origin)) (titles : Titles) (script : List ℕ) (desk : Shown) (seen : Seen)
+pub made : (format : FitFormat) (file : List ℕ) (hints : Bool) (origins : Option (List Origin)) (titles : Titles) (script : List ℕ) (desk : Shown) (seen : Seen)
     (came : Recounted) (found : Found) (commands : ℕ) (status : Status) (answer : Answer) → IsOf (told script) desk → StandsForHistory desk.history seen
     → seen ≡ record { version = length desk.history; state = desk.state; rows = desk.rows; denials = desk.denials }
-    → Some came ≡ recounted file titles.names origins (most_lines format) (tells_all format) script
-    → answer.text.items ≡ fit_of format file titles seen came
+    → Some came ≡ recounted file hints titles.names origins (most_lines format) (tells_all format) script
+    → answer.text.items ≡ fit_of format file hints titles seen came
     → commands ≡ came.refusals.commands → found ≡ findings_of seen commands → status ≡ status_of_verdict found.verdict → IsQuiet status answer.ending
-    → FitMade format file origins titles script answer
-made format file origins titles script desk seen came found commands status answer of stands shows counted text is_commands is_found is_status quiet = record {
+    → FitMade format file hints origins titles script answer
+made format file hints origins titles script desk seen came found commands status answer of stands shows counted text is_commands is_found is_status quiet = record {
   seen = seen;
   behind = record {
     opening = of.opening;

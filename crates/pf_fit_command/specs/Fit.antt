@@ -57,11 +57,11 @@ arrays_of seen r = record {
 }
 
 -- the answer of what was seen at the end of the script of this file, whose records came to this
-abbrev pub fit_of : FitFormat → List ℕ → Titles → Seen → Recounted → List ℕ
-fit_of Text file titles seen r =
+abbrev pub fit_of : FitFormat → List ℕ → Bool → Titles → Seen → Recounted → List ℕ
+fit_of Text file hints titles seen r =
     fit_text (carried_of seen) (joins_asked seen) titles (findings_of seen r.refusals.commands)
-    (lists_text file titles.names r.made r.refusals seen)
-fit_of Json file titles seen r = fit_json (carried_of seen) titles (findings_of seen r.refusals.commands) (arrays_of seen r)
+    (lists_text file hints titles.names r.made r.refusals seen)
+fit_of Json file hints titles seen r = fit_json (carried_of seen) titles (findings_of seen r.refusals.commands) (arrays_of seen r)
 
 -- the status of a verdict
 abbrev pub status_of_verdict : Verdict → Status
@@ -80,11 +80,11 @@ pub record IsSeenBehind (t : Told) (seen : Seen) : Type 0 where
   pub stands : StandsForHistory history seen
 
 -- the answer to a script of these bytes, in the file of this name: it was carried out, and the answer is that of what was seen at
--- its end and of what its records came to; origins where it belongs to a plan
-pub record FitMade (format : FitFormat) (file : List ℕ) (origins : Option (List Origin)) (titles : Titles) (script : List ℕ) (answer : Answer) : Type 0 where
+-- its end and of what its records came to; with hints, where they are asked for, and origins where it belongs to a plan
+pub record FitMade (format : FitFormat) (file : List ℕ) (hints : Bool) (origins : Option (List Origin)) (titles : Titles) (script : List ℕ) (answer : Answer) : Type 0 where
   pub seen : Seen
   pub behind : IsSeenBehind (told script) seen
   pub came : Recounted
-  pub counted : Some came ≡ recounted file titles.names origins (most_lines format) (tells_all format) script
-  pub text : answer.text.items ≡ fit_of format file titles seen came
+  pub counted : Some came ≡ recounted file hints titles.names origins (most_lines format) (tells_all format) script
+  pub text : answer.text.items ≡ fit_of format file hints titles seen came
   pub ends : IsQuiet (status_of_verdict (verdict_of (grounds_of seen came.refusals.commands))) answer.ending

@@ -23,8 +23,8 @@ use pf_vocabulary::options::fit_format::FitFormat;
 use std::alloc::{AllocError, Global};
 
 /// Carries a script of these bytes out, of version 1 or 2, and answers whether it fits, in this format; the file is the name that
-/// its records are told with. Where it belongs to a plan, `origins` are the records there that its own come from, and
-/// the titles what it calls its tasks. The status is `Done` where it fits, and else `FailedOn`.
+/// its records are told with; as text it has hints, where they are asked for. Where it belongs to a plan, `origins` are the records
+/// there that its own come from, and the titles what it calls its tasks. The status is `Done` where it fits, and else `FailedOn`.
 ///
 /// # Errors
 ///
@@ -33,17 +33,18 @@ pub fn fit(
     alloc: Global,
     format: FitFormat,
     file: &[u8],
+    hints: bool,
     script: &[u8],
     origins: Option<&[Origin]>,
     titles: &Titles,
 ) -> Result<Answer, Fault>
-    ensures made { IfOk result (FitMade format file.now (option_map (λ o. o.now) origins.entry) titles.now script.now) }
+    ensures made { IfOk result (FitMade format file.now hints (option_map (λ o. o.now) origins.entry) titles.now script.now) }
     ensures stopped { IfErr result (Stops (told script.now).rest.fault) }
     ensures unwritten { IfErr result IsUnwritten }
     ensures quiet { IfOk result (λ answer. answer.ending.notes.items ≡ []) }
 {
     match carry(alloc, script) {
-        Ok(desk) => match fit_desk(alloc, format, file, script, origins, titles, &desk) {
+        Ok(desk) => match fit_desk(alloc, format, file, hints, script, origins, titles, &desk) {
             Ok(answer) => Ok(answer),
             Err(AllocError) => Err(Fault::NoMemory),
         },
@@ -56,20 +57,23 @@ fn fit_desk(
     alloc: Global,
     format: FitFormat,
     file: &[u8],
+    hints: bool,
     script: &[u8],
     origins: Option<&[Origin]>,
     titles: &Titles,
     desk: &Desk,
 ) -> Result<Answer, AllocError>
     requires { IsOf (told script.now) desk.now }
-    ensures made { IfOk result (FitMade format file.now (option_map (λ o. o.now) origins.entry) titles.now script.now) }
+    ensures made { IfOk result (FitMade format file.now hints (option_map (λ o. o.now) origins.entry) titles.now script.now) }
     ensures quiet { IfOk result (λ answer. answer.ending.notes.items ≡ []) }
 {
-    let recount = recount_of(alloc, format, file, script, origins, titles, desk)?;
+    let recount = recount_of(alloc, format, file, hints, script, origins, titles, desk)?;
     let snapshot = desk.snapshot()?;
     let commands = recount.refusals.commands();
     let findings = find(alloc, &snapshot, commands)?;
-    let text = fit_of(alloc, format, file, titles, &snapshot, &recount, &findings)?;
+    let text = fit_of(
+        alloc, format, file, hints, titles, &snapshot, &recount, &findings,
+    )?;
     let status = status_of(findings.verdict);
     let ending = Ending::quiet(alloc, status);
     Ok(Answer { text, ending })
@@ -80,6 +84,7 @@ fn recount_of(
     alloc: Global,
     format: FitFormat,
     file: &[u8],
+    hints: bool,
     script: &[u8],
     origins: Option<&[Origin]>,
     titles: &Titles,
@@ -87,13 +92,14 @@ fn recount_of(
 ) -> Result<Recount, AllocError>
     requires { IsOf (told script.now) desk.now }
     ensures { IfOk result (λ r. Some r ≡
-        recounted file.now titles.now.names (option_map (λ o. o.now) origins.entry) (most_lines format) (tells_all format) script.now) }
+        recounted file.now hints titles.now.names (option_map (λ o. o.now) origins.entry) (most_lines format) (tells_all format) script.now) }
 {
     let most = most_lines(format);
     let whole = tells_all(format);
     let found = recount(
         alloc,
         file,
+        hints,
         &titles.names,
         script,
         origins,

@@ -1,4 +1,4 @@
-ghost use Rattle.std.specs.Prelude.{◌≡◌, ◌<◌, ◌≤◌, ◌^◌, ℕ, List, All, IfOk};
+ghost use Rattle.std.specs.Prelude.{◌≡◌, ◌<◌, ◌≤◌, ◌^◌, ℕ, Bool, List, All, IfOk};
 ghost use Rattle.pf_verdict.specs.Findings.{findings_of};
 ghost use Rattle.pf_fit_command.specs.Fit.{arrays_of, carried_of, fit_of};
 ghost use Rattle.pf_vocabulary.specs.declared.options.fit_format.FitFormat.TheVariants.{Json, Text};
@@ -48,6 +48,7 @@ fn arrays_of(alloc: Global, snapshot: &Snapshot, recount: &Recount) -> Result<Ar
 fn text_of(
     alloc: Global,
     file: &[u8],
+    hints: bool,
     titles: &Titles,
     snapshot: &Snapshot,
     recount: &Recount,
@@ -56,11 +57,12 @@ fn text_of(
     requires found { findings.now ≡ findings_of snapshot.now recount.now.refusals.commands }
     requires periods { All (λ f. 1 ≤ f.period) findings.now.figures }
     requires few { findings.now.units < 2 ^ 100 }
-    ensures { IfOk result (λ text. text.items ≡ fit_of Text file.now titles.now snapshot.now recount.now) }
+    ensures { IfOk result (λ text. text.items ≡ fit_of Text file.now hints titles.now snapshot.now recount.now) }
 {
     let listed = lists(
         alloc,
         file,
+        hints,
         &titles.names,
         &recount.made,
         &recount.refusals,
@@ -80,7 +82,7 @@ fn json_of(
     findings: &Findings,
 ) -> Result<Vec<u8>, AllocError>
     requires found { findings.now ≡ findings_of snapshot.now recount.now.refusals.commands }
-    ensures { (file : List ℕ) → IfOk result (λ text. text.items ≡ fit_of Json file titles.now snapshot.now recount.now) }
+    ensures { (file : List ℕ) (hints : Bool) → IfOk result (λ text. text.items ≡ fit_of Json file hints titles.now snapshot.now recount.now) }
 {
     let arrays = arrays_of(alloc, snapshot, recount)?;
     fit_json(alloc, carried_of(snapshot), titles, findings, &arrays)
@@ -91,6 +93,7 @@ pub(crate) fn fit_of(
     alloc: Global,
     format: FitFormat,
     file: &[u8],
+    hints: bool,
     titles: &Titles,
     snapshot: &Snapshot,
     recount: &Recount,
@@ -99,10 +102,10 @@ pub(crate) fn fit_of(
     requires found { findings.now ≡ findings_of snapshot.now recount.now.refusals.commands }
     requires periods { All (λ f. 1 ≤ f.period) findings.now.figures }
     requires few { findings.now.units < 2 ^ 100 }
-    ensures { IfOk result (λ text. text.items ≡ fit_of format file.now titles.now snapshot.now recount.now) }
+    ensures { IfOk result (λ text. text.items ≡ fit_of format file.now hints titles.now snapshot.now recount.now) }
 {
     match format {
-        FitFormat::Text => text_of(alloc, file, titles, snapshot, recount, findings),
+        FitFormat::Text => text_of(alloc, file, hints, titles, snapshot, recount, findings),
         FitFormat::Json => json_of(alloc, titles, snapshot, recount, findings),
     }
 }

@@ -16,27 +16,27 @@ use Rattle.pf_fit_text.specs.Json.{key, key_or_null}
 
 -- the numbers on which a denial rests, each where it has it
 abbrev pub asked_of : Grounds → Option ℕ
-asked_of (OverCapacity asked free cap) = Some asked
+asked_of (OverCapacity asked free base cost) = Some asked
 asked_of (NotInside task absence) = None
-asked_of (TooEarly task sub slot bound from last) = None
+asked_of (TooEarly task sub slot ran from later horizon) = None
 asked_of (Released task sub slot) = None
 
 abbrev pub free_of : Grounds → Option ℕ
-free_of (OverCapacity asked free cap) = Some free
+free_of (OverCapacity asked free base cost) = Some free
 free_of (NotInside task absence) = None
-free_of (TooEarly task sub slot bound from last) = None
+free_of (TooEarly task sub slot ran from later horizon) = None
 free_of (Released task sub slot) = None
 
 abbrev pub from_of : Grounds → Option ℕ
-from_of (OverCapacity asked free cap) = None
+from_of (OverCapacity asked free base cost) = None
 from_of (NotInside task absence) = None
-from_of (TooEarly task sub slot bound from last) = from
+from_of (TooEarly task sub slot ran from later horizon) = from
 from_of (Released task sub slot) = None
 
 abbrev pub released_of : Grounds → Option ℕ
-released_of (OverCapacity asked free cap) = None
+released_of (OverCapacity asked free base cost) = None
 released_of (NotInside task absence) = None
-released_of (TooEarly task sub slot bound from last) = None
+released_of (TooEarly task sub slot ran from later horizon) = None
 released_of (Released task sub slot) = Some slot
 
 -- a name of the tables of reasons, after its key

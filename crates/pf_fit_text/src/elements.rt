@@ -13,10 +13,10 @@ use pf_tally::miss::Miss;
 use std::alloc::{AllocError, Global};
 
 /// The units that a denied join asks for.
-fn asked_of(grounds: Grounds) -> Option<u64>
-    ensures { result ≡ asked_of grounds }
+fn asked_of(grounds: &Grounds) -> Option<u64>
+    ensures { result ≡ asked_of grounds.now }
 {
-    match grounds {
+    match *grounds {
         Grounds::OverCapacity { asked, .. } => Some(asked),
         Grounds::NotInside { .. } => None,
         Grounds::TooEarly { .. } => None,
@@ -25,10 +25,10 @@ fn asked_of(grounds: Grounds) -> Option<u64>
 }
 
 /// What the load leaves of the cap.
-fn free_of(grounds: Grounds) -> Option<u64>
-    ensures { result ≡ free_of grounds }
+fn free_of(grounds: &Grounds) -> Option<u64>
+    ensures { result ≡ free_of grounds.now }
 {
-    match grounds {
+    match *grounds {
         Grounds::OverCapacity { free, .. } => Some(free),
         Grounds::NotInside { .. } => None,
         Grounds::TooEarly { .. } => None,
@@ -37,10 +37,10 @@ fn free_of(grounds: Grounds) -> Option<u64>
 }
 
 /// The next slot in which a leave is let go.
-fn from_of(grounds: Grounds) -> Option<u64>
-    ensures { result ≡ from_of grounds }
+fn from_of(grounds: &Grounds) -> Option<u64>
+    ensures { result ≡ from_of grounds.now }
 {
-    match grounds {
+    match *grounds {
         Grounds::OverCapacity { .. } => None,
         Grounds::NotInside { .. } => None,
         Grounds::TooEarly { from, .. } => from,
@@ -49,10 +49,10 @@ fn from_of(grounds: Grounds) -> Option<u64>
 }
 
 /// The release before a denied delay.
-fn released_of(grounds: Grounds) -> Option<u64>
-    ensures { result ≡ released_of grounds }
+fn released_of(grounds: &Grounds) -> Option<u64>
+    ensures { result ≡ released_of grounds.now }
 {
-    match grounds {
+    match *grounds {
         Grounds::OverCapacity { .. } => None,
         Grounds::NotInside { .. } => None,
         Grounds::TooEarly { .. } => None,
@@ -124,10 +124,10 @@ pub fn denied_json(
 ) -> Result<Vec<u8>, AllocError>
     ensures { IfOk result (λ text. text.items ≡ denied_json place denied grounds task) }
 {
-    let asked = asked_of(grounds);
-    let free = free_of(grounds);
-    let from = from_of(grounds);
-    let released = released_of(grounds);
+    let asked = asked_of(&grounds);
+    let free = free_of(&grounds);
+    let from = from_of(&grounds);
+    let released = released_of(&grounds);
     let end = denied_end(alloc, place, denied, released, task)?;
     let mut text = denied_front(alloc, denied, asked, free, from)?;
     text.extend_from_slice(&end)?;

@@ -2,5 +2,8 @@ mod Finding
 mod Joining
 mod Quanta
 mod Bounds
+mod Decimals
+mod Divisors
+mod Ran
 mod Standing
 mod Leaving

@@ -4,7 +4,7 @@ use Rattle.std.specs.List.{list_any, slice_get, position_or_len}
 use Rattle.std.specs.Option.{option_map_or, option_and_then}
 use Rattle.std.proofs.lemmas.Bool.{eqb-true, cond-true, lt-ltb}
 use Rattle.std.proofs.lemmas.List.Folds.{find_at}
-use Rattle.std.proofs.lemmas.List.{append-nil, append_assoc, take-append-drop, length-take}
+use Rattle.std.proofs.lemmas.List.{append-nil, append_assoc, length-take}
 use Rattle.std.proofs.lemmas.List.Elements.{All-filter, All-take, All-append, All-nil, All-cons, Contains-get_or}
 use Rattle.std.proofs.lemmas.List.Sorted.{list_any-IsPermutation}
 use Rattle.pf_lemmas.proofs.Finding.{found_all, found_passes}
@@ -32,14 +32,15 @@ use Rattle.pf_tally.proofs.Turns.{rows_length}
 use Rattle.pf_tally.proofs.InForce.{in_force-append, in_force_rises, kept_in_force}
 use Rattle.pf_desk.specs.Desk.{Seen}
 use Rattle.pf_notes.specs.Absence.{leave_among}
-use Rattle.pf_notes.specs.Point.{before_event, event_of, first_slot, joined_at}
-use Rattle.pf_notes.specs.Grounds.{last_slot, lets_go, early_leave, late_delay, grounds_for, grounds_of}
-use Rattle.pf_notes.specs.Walk.{AreRunRows, last_in, bound_with, release_with, sub_of, lets_go_by}
+use Rattle.pf_notes.specs.Point.{before_event, event_of, first_slot, joined_at, member_in}
+use Rattle.pf_notes.specs.Grounds.{last_ran, last_slot, lets_go, early_leave, late_delay, grounds_for, grounds_of}
+use Rattle.pf_notes.specs.Walk.{AreRunRows, last_in, bound_with, ran_of, release_with, sub_of, lets_go_by}
 use Rattle.pf_notes.specs.Reasons.{AreReasons, IsFront, IsPoint}
 use Rattle.pf_notes.specs.declared.quantum.Quantum.{Quantum}
 use Rattle.pf_notes.specs.declared.grounds.Grounds.TheVariants.{TooEarly, Released}
 use Rattle.pf_notes.proofs.Quanta.{last_is, are_run_rows}
 use Rattle.pf_notes.proofs.Bounds.{sub_is, bound_is, release_is, bound_same}
+use Rattle.pf_notes.proofs.Ran.{ran_is}
 
 some_same : {X : Type 0} (x y : X) → ◌≡◌ {A = Option X} (Some x) (Some y) → x ≡ y
 some_same x y e = cc
@@ -265,46 +266,39 @@ module _ (seen : Seen) (events : List Numbered) (numbers : List ℕ) (are : AreR
     inside : slot ≤ length r
     inside = omega (arith, point.within, long)
 
-    abbrev rest : List Numbered
-    rest = in_force (denials_of r) (drop point.is_front.count (past s n))
-
-    split : whole ≡ xs ++ rest
-    split =
-        ap (in_force (denials_of r)) (sym (take-append-drop point.is_front.count (past s n)) ∙ ap (λ ys. ys ++ drop point.is_front.count (past s n)) (sym point.is_front.front))
-        ∙ in_force-append (denials_of r) before (drop point.is_front.count (past s n))
-
-    later : All (λ y. slot ≤ slot_of y.event) rest
-    unfolding in_force
-    later =
-        All-filter (λ x. not (is_denied (denials_of r) x)) (λ y. slot ≤ slot_of y.event) (drop point.is_front.count (past s n)) point.rest
-
     -- in a later slot
-    goes : (u : ℕ) → u ≤ n → lets_go_by (rows_in s n) j whole u ≡ lets_go s r j u
-    goes u within =
+    bound_at : (u : ℕ) → u ≤ n → bound_with j whole (last_in (rows_in s n) j.task u) ≡ free_from (member_in s r j u)
+    bound_at u within =
         let more = past_more s u (n - u) in
         let d = denials_of r in
         let of_rest : whole ≡ events_in_force s r u ++ in_force d more.0 =
         ap (in_force d) (ap (past s) (let z : n ≡ u + (n - u) = omega (arith, within) in z) ∙ more.1) ∙ in_force-append d (past s u) more.0 in
         let last = last_is s n scenario j.task u within in
-        ap (λ b. nat_le b u)
-        (bound_same j (events_in_force s r u) (in_force d more.0) whole u (last_in (rows_in s n) j.task u) r of_rest (kept u d more.0 more.2) last
-        ∙ bound_is r u (omega (arith, within, long)) (events_in_force s r u) (past_early s d u) j (last_in (rows_in s n) j.task u) last)
+        bound_same j (events_in_force s r u) (in_force d more.0) whole u (last_in (rows_in s n) j.task u) r of_rest (kept u d more.0 more.2) last
+        ∙ bound_is r u (omega (arith, within, long)) (events_in_force s r u) (past_early s d u) j (last_in (rows_in s n) j.task u) last
 
-    canonical_leave : TooEarly j.task (sub_of (last_in (rows_in s n) j.task slot)) slot (bound_with j whole (last_in (rows_in s n) j.task slot))
-        (first_slot (lets_go_by (rows_in s n) j whole) (slot + 1) (last_slot s.settings n - slot)) (last_slot s.settings n)
+    goes : (u : ℕ) → u ≤ n → lets_go_by (rows_in s n) j whole u ≡ lets_go s r j u
+    goes u within = ap (λ b. nat_le b u) (bound_at u within)
+
+    end_is : last_slot s.settings n ≡ last_slot s.settings (length r)
+    end_is = ap (last_slot s.settings) (sym long)
+
+    canonical_leave : TooEarly j.task (sub_of (last_in (rows_in s n) j.task slot)) slot (ran_of (last_in (rows_in s n) j.task slot))
+        (first_slot (lets_go_by (rows_in s n) j whole) (slot + 1) (last_slot s.settings n - slot))
+        (bound_with j whole (last_in (rows_in s n) j.task (last_slot s.settings n))) s.settings.horizon
         ≡ early_leave s r xs slot j
     canonical_leave =
         let last = last_is s n scenario j.task slot (omega (arith, point.within)) in
         let o = last_in (rows_in s n) j.task slot in
-        let end : last_slot s.settings n ≡ last_slot s.settings (length r) = ap (last_slot s.settings) (sym long) in
-        ap₂ (λ i b. TooEarly j.task i slot b (first_slot (lets_go_by (rows_in s n) j whole) (slot + 1) (last_slot s.settings n - slot)) (last_slot s.settings n))
-        (sub_is r slot inside xs early j o last)
-        (bound_same j xs rest whole slot o r split later last ∙ bound_is r slot inside xs early j o last)
-        ∙ ap₂ (λ f e. TooEarly j.task (member_of (take slot r) xs j).done slot (free_from (member_of (take slot r) xs j)) f e)
-        (first_same (lets_go_by (rows_in s n) j whole) (lets_go s r j) (slot + 1) (last_slot s.settings n - slot)
+        let end = last_slot s.settings n in
+        ap₂ (λ i q. TooEarly j.task i slot q (first_slot (lets_go_by (rows_in s n) j whole) (slot + 1) (end - slot))
+        (bound_with j whole (last_in (rows_in s n) j.task end)) s.settings.horizon)
+        (sub_is r slot inside xs early j o last) (ran_is r j.task slot o last)
+        ∙ ap₂ (λ f l. TooEarly j.task (member_of (take slot r) xs j).done slot (last_ran r j.task slot) f l s.settings.horizon)
+        (first_same (lets_go_by (rows_in s n) j whole) (lets_go s r j) (slot + 1) (end - slot)
         (λ u from to. goes u (omega (arith, to, from)))
-        ∙ ap (λ e. first_slot (lets_go s r j) (slot + 1) (e - slot)) end)
-        end
+        ∙ ap (λ e. first_slot (lets_go s r j) (slot + 1) (e - slot)) end_is)
+        (bound_at end (omega arith) ∙ ap (λ e. free_from (member_in s r j e)) end_is)
 
     canonical_delay : Released j.task (sub_of (last_in (rows_in s n) j.task slot) + 1) (release_with j xs slot (last_in (rows_in s n) j.task slot)) ≡ late_delay r xs slot j
     canonical_delay =
@@ -314,12 +308,14 @@ module _ (seen : Seen) (events : List Numbered) (numbers : List ℕ) (are : AreR
 
     -- Use: what a leave and a delay at the point rest on.
     pub leave_is : (rows : List (List (Option Pick))) (denials : List Denied) → rows ≡ seen.rows → denials ≡ seen.denials →
-        TooEarly j.task (sub_of (last_in rows j.task slot)) slot (bound_with j (in_force denials (past s n)) (last_in rows j.task slot))
-        (first_slot (lets_go_by rows j (in_force denials (past s n))) (slot + 1) (last_slot s.settings n - slot)) (last_slot s.settings n)
+        TooEarly j.task (sub_of (last_in rows j.task slot)) slot (ran_of (last_in rows j.task slot))
+        (first_slot (lets_go_by rows j (in_force denials (past s n))) (slot + 1) (last_slot s.settings n - slot))
+        (bound_with j (in_force denials (past s n)) (last_in rows j.task (last_slot s.settings n))) s.settings.horizon
         ≡ early_leave s r (in_force denials before) slot j
     leave_is rows denials of_rows of_denials =
-        subst₂ (λ rows denials. TooEarly j.task (sub_of (last_in rows j.task slot)) slot (bound_with j (in_force denials (past s n)) (last_in rows j.task slot))
-        (first_slot (lets_go_by rows j (in_force denials (past s n))) (slot + 1) (last_slot s.settings n - slot)) (last_slot s.settings n)
+        subst₂ (λ rows denials. TooEarly j.task (sub_of (last_in rows j.task slot)) slot (ran_of (last_in rows j.task slot))
+        (first_slot (lets_go_by rows j (in_force denials (past s n))) (slot + 1) (last_slot s.settings n - slot))
+        (bound_with j (in_force denials (past s n)) (last_in rows j.task (last_slot s.settings n))) s.settings.horizon
         ≡ early_leave s r (in_force denials before) slot j)
         (sym (of_rows ∙ are.of_run.are_rows)) (sym (of_denials ∙ denials_are)) canonical_leave
 
@@ -332,21 +328,24 @@ module _ (seen : Seen) (events : List Numbered) (numbers : List ℕ) (are : AreR
         (sym (of_rows ∙ are.of_run.are_rows)) (sym (of_denials ∙ denials_are)) canonical_delay
 
     -- Use: the same, as it is found.
-    pub leave_told : (task sub bound last : ℕ) (from : Option ℕ) (quantum : Option Quantum) (rows : List (List (Option Pick))) (standing : List Numbered) →
+    pub leave_told : (task sub ran last later horizon : ℕ) (from : Option ℕ) (quantum at_end : Option Quantum) (rows : List (List (Option Pick)))
+        (standing : List Numbered) →
         task ≡ j.task → rows ≡ seen.rows → standing ≡ in_force seen.denials events → quantum ≡ last_in rows task slot → sub ≡ sub_of quantum →
-        bound ≡ bound_with j standing quantum → last ≡ last_slot s.settings n → from ≡ first_slot (lets_go_by rows j standing) (slot + 1) (last - slot) →
-        TooEarly task sub slot bound from last ≡ early_leave s r (in_force seen.denials before) slot j
-    leave_told task sub bound last from quantum rows standing of_task of_rows of_standing of_quantum of_sub of_bound of_last of_from =
+        ran ≡ ran_of quantum → last ≡ last_slot s.settings n → from ≡ first_slot (lets_go_by rows j standing) (slot + 1) (last - slot) →
+        at_end ≡ last_in rows task last → later ≡ bound_with j standing at_end → horizon ≡ s.settings.horizon →
+        TooEarly task sub slot ran from later horizon ≡ early_leave s r (in_force seen.denials before) slot j
+    leave_told task sub ran last later horizon from quantum at_end rows standing of_task of_rows of_standing of_quantum of_sub of_ran of_last of_from of_end
+        of_later of_horizon =
         let q : quantum ≡ last_in rows j.task slot = of_quantum ∙ ap (λ t. last_in rows t slot) of_task in
         let w : standing ≡ in_force seen.denials (past s n) = of_standing ∙ ap (in_force seen.denials) are.past in
-        let b : bound ≡ bound_with j (in_force seen.denials (past s n)) (last_in rows j.task slot) =
-        of_bound ∙ ap₂ (bound_with j) w q in
+        let e : at_end ≡ last_in rows j.task (last_slot s.settings n) = of_end ∙ ap₂ (last_in rows) of_task of_last in
         let f : from ≡ first_slot (lets_go_by rows j (in_force seen.denials (past s n))) (slot + 1) (last_slot s.settings n - slot) =
         of_from ∙ ap₂ (λ (xs : List Numbered) e. first_slot (lets_go_by rows j xs) (slot + 1) (e - slot)) w of_last in
-        ap₂ (λ t i. TooEarly t i slot bound from last) of_task (of_sub ∙ ap sub_of q)
-        ∙ ap₂ (λ c o. TooEarly j.task (sub_of (last_in rows j.task slot)) slot c o last) b f
-        ∙ ap (TooEarly j.task (sub_of (last_in rows j.task slot)) slot (bound_with j (in_force seen.denials (past s n)) (last_in rows j.task slot))
-        (first_slot (lets_go_by rows j (in_force seen.denials (past s n))) (slot + 1) (last_slot s.settings n - slot))) of_last
+        let l : later ≡ bound_with j (in_force seen.denials (past s n)) (last_in rows j.task (last_slot s.settings n)) = of_later ∙ ap₂ (bound_with j) w e in
+        ap₂ (λ t i. TooEarly t i slot ran from later horizon) of_task (of_sub ∙ ap sub_of q)
+        ∙ ap₂ (λ c o. TooEarly j.task (sub_of (last_in rows j.task slot)) slot c o later horizon) (of_ran ∙ ap ran_of q) f
+        ∙ ap₂ (TooEarly j.task (sub_of (last_in rows j.task slot)) slot (ran_of (last_in rows j.task slot))
+        (first_slot (lets_go_by rows j (in_force seen.denials (past s n))) (slot + 1) (last_slot s.settings n - slot))) l of_horizon
         ∙ leave_is rows seen.denials of_rows refl
 
     pub delay_told : (task sub release : ℕ) (quantum : Option Quantum) (rows : List (List (Option Pick))) (standing : List Numbered) →

@@ -1,7 +1,8 @@
 -- What the denial of an event rests on.
-use Rattle.std.specs.Prelude.{ℕ, ◌+◌, ◌-◌, Bool, nat_le, min, Option, None, Some, List, ◌++◌, codes, length, take}
+use Rattle.std.specs.Prelude.{ℕ, zero, suc, ◌+◌, ◌-◌, ◌/◌, Bool, nat_lt, nat_le, min, if◌then◌else◌, Option, None, Some, List, ◌++◌, codes, length, take}
 use Rattle.std.specs.Option.{option_map, option_and_then}
 use Rattle.std.specs.Fmt.{decimal}
+use Rattle.pf_text.specs.Columns.Decimals.{cut, up}
 use Rattle.pf_scenario.specs.System.{System}
 use Rattle.pf_scenario.specs.Scenario.{Plan, past}
 use Rattle.pf_scenario.specs.declared.event.Event.{Event}
@@ -11,7 +12,7 @@ use Rattle.pf_admit.specs.Member.{free_from, next_release}
 use Rattle.pf_admit.specs.declared.denial.Denial.{Denial}
 use Rattle.pf_admit.specs.declared.denial.Denial.TheVariants as denied
 use Rattle.pf_run.specs.declared.denied.Denied.{Denied}
-use Rattle.pf_run.specs.Record.{Slot, denials_of, in_force}
+use Rattle.pf_run.specs.Record.{Slot, denials_of, done, in_force}
 use Rattle.pf_run.specs.Inside.{Joined, joined_by, load_of, member_of}
 use Rattle.pf_notes.specs.Subject.{subtask_text}
 use Rattle.pf_notes.specs.Point.{before_event, event_of, first_slot, joined_at, member_in}
@@ -31,16 +32,22 @@ lets_go s r j t = nat_le (free_from (member_in s r j t)) t
 abbrev pub leaves_in : Plan → List Slot → Joined → ℕ → ℕ → Option ℕ
 leaves_in s r j from to = first_slot (lets_go s r j) (from + 1) (to - from)
 
--- of the join of a task
+-- the last slot below t in which the task ran; 0 where it ran in none
+abbrev pub last_ran : List Slot → ℕ → ℕ → ℕ
+last_ran r task zero = 0
+last_ran r task (suc t) = if nat_lt (done r task t) (done r task (suc t)) then t else last_ran r task t
+
+-- of the join of a task, of which a cost of 1 asks for h / period
 abbrev pub over_capacity : Plan → List Denied → List Numbered → Joined → Grounds
 over_capacity s denials before j =
-    OverCapacity j.weight.units (s.settings.cap - load_of s.settings.base (in_force denials before)) s.settings.cap
+    OverCapacity j.weight.units (s.settings.cap - load_of s.settings.base (in_force denials before)) s.settings.base
+    ((s.settings.cap - load_of s.settings.base (in_force denials before)) / (s.settings.base / j.weight.period))
 
 -- of a leave in this slot, of a task that was inside with these events in force
 abbrev pub early_leave : Plan → List Slot → List Numbered → ℕ → Joined → Grounds
 early_leave s r xs slot j =
-    TooEarly j.task (member_of (take slot r) xs j).done slot (free_from (member_of (take slot r) xs j))
-    (leaves_in s r j slot (last_slot s.settings (length r))) (last_slot s.settings (length r))
+    TooEarly j.task (member_of (take slot r) xs j).done slot (last_ran r j.task slot)
+    (leaves_in s r j slot (last_slot s.settings (length r))) (free_from (member_in s r j (last_slot s.settings (length r)))) s.settings.horizon
 
 -- of a delay in this slot
 abbrev pub late_delay : List Slot → List Numbered → ℕ → Joined → Grounds
@@ -52,9 +59,9 @@ abbrev pub grounds_for : Plan → List Slot → List Denied → List Numbered �
 grounds_for s r denials before (Join slot task cost period early) denied.OverCapacity =
     option_map (over_capacity s denials before) (joined_by s.settings.base (Join slot task cost period early))
 grounds_for s r denials before (Leave slot task) denied.NotInside =
-    option_map (NotInside task) (absence_of s.events denials before task)
+    option_map (NotInside task) (absence_of s.events denials before slot task)
 grounds_for s r denials before (Delay slot task by) denied.NotInside =
-    option_map (NotInside task) (absence_of s.events denials before task)
+    option_map (NotInside task) (absence_of s.events denials before slot task)
 grounds_for s r denials before (Leave slot task) denied.TooEarly =
     option_map (early_leave s r (in_force denials before) slot) (joined_at s.settings.base (in_force denials before) task)
 grounds_for s r denials before (Delay slot task by) denied.Released =
@@ -67,39 +74,43 @@ grounds_of s r d =
     option_and_then (λ x. grounds_for s r (denials_of r) (before_event d.id (past s (length r))) x.event d.denial)
     (event_of d.id (past s (length r)))
 
--- the slot in which a denied leave may leave
-abbrev pub repair_text : Option ℕ → ℕ → List ℕ
-repair_text (Some slot) last = codes "the next slot in which it may leave is " ++ decimal slot
-repair_text None last = codes "it may leave in no slot behind it up to " ++ decimal last
-
--- what a join asks for, and what is free
+-- what a join asks for, and what is free, of a processor: with 4 decimals, the one rounded up, the other cut off
 unfoldable pub asked_text : ℕ → ℕ → List ℕ
-asked_text asked free = codes "it asks for " ++ decimal asked ++ codes " units, and " ++ decimal free
+asked_text base asked = codes "it asks for " ++ up asked base 4 ++ codes " of a processor, and "
 
-unfoldable pub cap_text : ℕ → List ℕ
-cap_text cap = codes " of the cap " ++ decimal cap ++ codes " are free"
+unfoldable pub free_text : ℕ → ℕ → List ℕ
+free_text base free = cut free base 4 ++ codes " are free"
 
 -- when the next subtask was released
 unfoldable pub released_text : ℕ → List ℕ
-released_text slot = codes " was released in slot " ++ decimal slot
+released_text slot = codes " was released already, in slot " ++ decimal slot
 
--- a leave in a slot below its bound
-abbrev pub too_early_text : ℕ → ℕ → Option ℕ → ℕ → List ℕ
-too_early_text slot bound from last =
-    codes " ran last, and slot " ++ decimal slot ++ codes " is below " ++ decimal bound ++ codes "; " ++ repair_text from last
+-- in which slot a task may leave that may not leave before `later`, where it is below the horizon
+abbrev pub later_text : ℕ → ℕ → List ℕ
+later_text later horizon =
+    if nat_lt later horizon then codes "it may leave in slot " ++ decimal later ++ codes " or later, which is not stepped yet"
+    else codes "it may leave in no slot below the horizon " ++ decimal horizon
+
+-- the next slot in which it may leave, if it is one of those up to the end, or else that
+abbrev pub repair_text : Option ℕ → ℕ → ℕ → List ℕ
+repair_text (Some slot) later horizon = codes "the next slot in which it may leave is " ++ decimal slot
+repair_text None later horizon = later_text later horizon
+
+-- the slot in which its last subtask ran, and then this
+abbrev pub too_early_text : ℕ → Option ℕ → ℕ → ℕ → List ℕ
+too_early_text ran from later horizon = codes " ran in slot " ++ decimal ran ++ codes ": " ++ repair_text from later horizon
 
 -- the task that it speaks of
 abbrev pub task_of_grounds : Grounds → Option ℕ
-task_of_grounds (OverCapacity asked free cap) = None
+task_of_grounds (OverCapacity asked free base cost) = None
 task_of_grounds (NotInside task absence) = Some task
-task_of_grounds (TooEarly task sub slot bound from last) = Some task
+task_of_grounds (TooEarly task sub slot ran from later horizon) = Some task
 task_of_grounds (Released task sub slot) = Some task
 
 -- its sentence, of a task with this name
 abbrev pub grounds_text : Option (List ℕ) → Grounds → List ℕ
-grounds_text name (OverCapacity asked free cap) =
-    asked_text asked free ++ cap_text cap
+grounds_text name (OverCapacity asked free base cost) = asked_text base asked ++ free_text base free
 grounds_text name (NotInside task absence) = absence_text name task absence
-grounds_text name (TooEarly task sub slot bound from last) =
-    subtask_text name task sub ++ too_early_text slot bound from last
+grounds_text name (TooEarly task sub slot ran from later horizon) =
+    subtask_text name task sub ++ too_early_text ran from later horizon
 grounds_text name (Released task sub slot) = subtask_text name task sub ++ released_text slot

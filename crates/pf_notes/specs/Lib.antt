@@ -12,3 +12,5 @@ pub mod Refusal
 pub mod Walk
 pub mod Reasons
 pub mod Laws
+pub mod Periods
+pub mod Hints

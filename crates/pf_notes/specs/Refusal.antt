@@ -15,8 +15,8 @@ use Rattle.pf_scenario.specs.declared.event.Event.TheVariants.{Join, Leave, Dela
 use Rattle.pf_scenario.specs.declared.event.Numbered.{Numbered}
 use Rattle.pf_scenario.specs.declared.fault.EditFault.{EditFault}
 use Rattle.pf_scenario.specs.declared.fault.EditFault.TheVariants.{EventNotFound, SlotOutOfRange, TaskOutOfRange, EarlyOutOfRange, BadWeight, JoinTwice, LeaveTwice, TooManyEvents, NumbersSpent}
-use Rattle.pf_admit.specs.Refusals.{denial_code, denial_name}
 use Rattle.pf_admit.specs.declared.denial.Denial.{Denial}
+use Rattle.pf_admit.specs.declared.denial.Denial.TheVariants.{NotInside, OverCapacity, Released, TooEarly}
 use Rattle.pf_desk.specs.declared.reply.Fault.{Fault}
 use Rattle.pf_desk.specs.declared.reply.Fault.TheVariants.{BadEdit, AtHorizon, WouldDeny}
 use Rattle.pf_notes.specs.Subject.{task_text}
@@ -107,13 +107,16 @@ left_event s change id =
     else option_map (λ x. x.event) (find (λ x. x.id == id) s.events)
 
 -- why an event would be denied
-unfoldable pub denied_text : Denial → List ℕ
-denied_text denial = codes ", would be denied, " ++ decimal (denial_code denial) ++ codes " " ++ denial_name denial
+abbrev pub denied_text : Denial → List ℕ
+denied_text OverCapacity = codes "it asks for more than is free"
+denied_text NotInside = codes "its task is not inside"
+denied_text TooEarly = codes "it leaves too early"
+denied_text Released = codes "its quantum was released already"
 
 -- a strict change that would leave this event denied
 abbrev pub would_deny_text : Plan → Change → ℕ → Denial → List ℕ
 would_deny_text s change id denial =
-    codes "event " ++ decimal id ++ codes ", " ++ option_map_or record_text (left_event s change id) [] ++ denied_text denial
+    codes "event " ++ decimal id ++ codes ", " ++ option_map_or record_text (left_event s change id) [] ++ codes ", would be denied: " ++ denied_text denial
 
 -- why a change was refused in the scenario s, of a task with this name
 abbrev pub refusal_text : Option (List ℕ) → Plan → Change → Fault → List ℕ

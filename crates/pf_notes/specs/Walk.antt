@@ -53,6 +53,10 @@ bound_after j xs q =
 abbrev pub bound_with : Joined → List Numbered → Option Quantum → ℕ
 bound_with j xs last = option_map_or (bound_after j xs) last 0
 
+-- the slot of the quantum
+abbrev pub ran_of : Option Quantum → ℕ
+ran_of last = option_map_or (λ q. q.slot) last 0
+
 -- how many quanta it has had
 abbrev pub sub_of : Option Quantum → ℕ
 sub_of last = option_map_or (λ q. q.sub) last 0

@@ -1,10 +1,13 @@
-ghost use Rattle.std.specs.Prelude.{◌≡◌, ◌++◌, OnOk};
+ghost use Rattle.std.specs.Prelude.{◌≡◌, ◌≤◌, ◌++◌, OnOk};
 ghost use Rattle.std.specs.Option.{option_map};
-ghost use Rattle.pf_notes.specs.Grounds.{asked_text, cap_text, grounds_text, released_text, repair_text, too_early_text};
+ghost use Rattle.pf_text.specs.Columns.Decimals.{up};
+ghost use Rattle.pf_notes.specs.Grounds.{asked_text, free_text, grounds_text, later_text, released_text, repair_text, too_early_text};
 
 use crate::absence::{Absence, push_absence};
 use crate::subject::push_subtask;
-use crate::words::{push_between, push_two, push_word};
+use crate::words::{push_between, push_word};
+use pf_text::columns::decimals::push_up;
+use pf_weight::base::Base;
 use std::alloc::AllocError;
 
 /// What the denial of an event rests on.
@@ -16,8 +19,10 @@ pub enum Grounds {
         asked: u64,
         /// What the load leaves of the cap.
         free: u64,
-        /// The cap.
-        cap: u64,
+        /// The base h.
+        base: Base,
+        /// The greatest cost that would be let in, of the period that the join has; 0 where none would.
+        cost: u64,
     },
     /// Of a leave or a delay.
     NotInside {
@@ -34,12 +39,15 @@ pub enum Grounds {
         sub: u64,
         /// The slot of the leave.
         slot: u64,
-        /// The first slot in which this subtask lets the task leave.
-        bound: u64,
-        /// The next slot in which the run lets it leave, if there is one up to `last`.
+        /// The slot in which this subtask ran.
+        ran: u64,
+        /// The next slot in which the run lets the task leave, if there is one up to the number of slots stepped, or the last slot
+        /// below the horizon.
         from: Option<u64>,
-        /// The number of slots stepped, or the last slot below the horizon.
-        last: u64,
+        /// The first slot in which its last subtask before that end lets it leave.
+        later: u64,
+        /// The horizon.
+        horizon: u64,
     },
     /// Of a delay.
     Released {
@@ -69,53 +77,93 @@ impl Grounds {
     }
 }
 
-/// Appends what a join asks for, and how many units are free.
+/// Appends these units as a share of a processor, rounded up, between two words.
+fn push_share(
+    text: &mut Vec<u8>,
+    before: &[u8],
+    base: u64,
+    units: u64,
+    after: &[u8],
+) -> Result<(), AllocError>
+    requires { 1 ≤ base }
+    ensures { OnOk result (text.new.items ≡ text.old.items ++ (before.now ++ up units base 4 ++ after.now)) }
+{
+    text.extend_from_slice(before)?;
+    push_up(text, u128::from(units), u128::from(base), 4)?;
+    text.extend_from_slice(after)
+}
+
+/// Appends what a join asks for of a processor.
 #[tactic(auto, unfolding(crate::specs::Grounds::asked_text))]
-fn push_asked(text: &mut Vec<u8>, asked: u64, free: u64) -> Result<(), AllocError>
-    ensures { OnOk result (text.new.items ≡ text.old.items ++ asked_text asked free) }
+fn push_asked(text: &mut Vec<u8>, base: u64, asked: u64) -> Result<(), AllocError>
+    requires { 1 ≤ base }
+    ensures { OnOk result (text.new.items ≡ text.old.items ++ asked_text base asked) }
 {
-    push_two(text, b"it asks for ", asked, b" units, and ", free)
+    push_share(text, b"it asks for ", base, asked, b" of a processor, and ")
 }
 
-/// Appends what they are free of.
-#[tactic(auto, unfolding(crate::specs::Grounds::cap_text))]
-fn push_cap(text: &mut Vec<u8>, cap: u64) -> Result<(), AllocError>
-    ensures { OnOk result (text.new.items ≡ text.old.items ++ cap_text cap) }
+/// Appends what is free of a processor.
+#[tactic(auto, unfolding(crate::specs::Grounds::free_text), using(crate::proofs::Decimals::whole_parts))]
+fn push_free(text: &mut Vec<u8>, base: u64, free: u64) -> Result<(), AllocError>
+    requires { 1 ≤ base }
+    ensures { OnOk result (text.new.items ≡ text.old.items ++ free_text base free) }
 {
-    push_between(text, b" of the cap ", cap, b" are free")
+    let parts = u128::from(free) * 10_000 / u128::from(base);
+    push_up(text, parts, 10_000, 4)?;
+    text.extend_from_slice(b" are free")
 }
 
-/// Appends that the next subtask was released.
+/// Appends when the next subtask was released.
 #[tactic(auto, unfolding(crate::specs::Grounds::released_text))]
 fn push_released(text: &mut Vec<u8>, slot: u64) -> Result<(), AllocError>
     ensures { OnOk result (text.new.items ≡ text.old.items ++ released_text slot) }
 {
-    push_word(text, b" was released in slot ", slot)
+    push_word(text, b" was released already, in slot ", slot)
 }
 
-/// Appends in which slot a denied leave may leave.
-fn push_repair(text: &mut Vec<u8>, from: Option<u64>, last: u64) -> Result<(), AllocError>
-    ensures { OnOk result (text.new.items ≡ text.old.items ++ repair_text from last) }
+/// Appends in which slot a task may leave that may not leave before `later`.
+fn push_later(text: &mut Vec<u8>, later: u64, horizon: u64) -> Result<(), AllocError>
+    ensures { OnOk result (text.new.items ≡ text.old.items ++ later_text later horizon) }
 {
-    match from {
-        Some(slot) => push_word(text, b"the next slot in which it may leave is ", slot),
-        None => push_word(text, b"it may leave in no slot behind it up to ", last),
+    if later < horizon {
+        push_between(
+            text,
+            b"it may leave in slot ",
+            later,
+            b" or later, which is not stepped yet",
+        )
+    } else {
+        push_word(text, b"it may leave in no slot below the horizon ", horizon)
     }
 }
 
-/// Appends that a leave in this slot is below its bound, and in which slot the task may leave.
+/// Appends in which slot a denied leave may leave.
+fn push_repair(
+    text: &mut Vec<u8>,
+    from: Option<u64>,
+    later: u64,
+    horizon: u64,
+) -> Result<(), AllocError>
+    ensures { OnOk result (text.new.items ≡ text.old.items ++ repair_text from later horizon) }
+{
+    match from {
+        Some(slot) => push_word(text, b"the next slot in which it may leave is ", slot),
+        None => push_later(text, later, horizon),
+    }
+}
+
+/// Appends in which slot the last subtask of the task ran, and in which slot the task may leave.
 fn push_too_early(
     text: &mut Vec<u8>,
-    slot: u64,
-    bound: u64,
+    ran: u64,
     from: Option<u64>,
-    last: u64,
+    later: u64,
+    horizon: u64,
 ) -> Result<(), AllocError>
-    ensures { OnOk result (text.new.items ≡ text.old.items ++ too_early_text slot bound from last) }
+    ensures { OnOk result (text.new.items ≡ text.old.items ++ too_early_text ran from later horizon) }
 {
-    push_two(text, b" ran last, and slot ", slot, b" is below ", bound)?;
-    text.extend_from_slice(b"; ")?;
-    push_repair(text, from, last)
+    push_between(text, b" ran in slot ", ran, b": ")?;
+    push_repair(text, from, later, horizon)
 }
 
 /// Appends the sentence of a denial that rests on these grounds. The name is that of the task that it speaks of, where this has
@@ -132,21 +180,27 @@ pub fn push_grounds(
     ensures { OnOk result (text.new.items ≡ text.old.items ++ grounds_text (option_map (λ n. n.now) name.entry) grounds.now) }
 {
     match *grounds {
-        Grounds::OverCapacity { asked, free, cap } => {
-            push_asked(text, asked, free)?;
-            push_cap(text, cap)
+        Grounds::OverCapacity {
+            asked,
+            free,
+            base,
+            ..
+        } => {
+            push_asked(text, base.get(), asked)?;
+            push_free(text, base.get(), free)
         }
         Grounds::NotInside { task, absence } => push_absence(text, name, task, absence),
         Grounds::TooEarly {
             task,
             sub,
-            slot,
-            bound,
+            ran,
             from,
-            last,
+            later,
+            horizon,
+            ..
         } => {
             push_subtask(text, name, task, sub)?;
-            push_too_early(text, slot, bound, from, last)
+            push_too_early(text, ran, from, later, horizon)
         }
         Grounds::Released { task, sub, slot } => {
             push_subtask(text, name, task, sub)?;

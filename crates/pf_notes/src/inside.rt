@@ -1,4 +1,4 @@
-ghost use Rattle.std.specs.Prelude.{◌≡◌, ◌≤◌, ◌++◌, [], All, filter_map, length, IfOk, OnOk};
+ghost use Rattle.std.specs.Prelude.{◌≡◌, ◌≤◌, ◌/◌, ◌++◌, [], All, filter_map, length, IfOk, OnOk};
 ghost use Rattle.std.specs.List.{cons_option};
 ghost use Rattle.std.specs.List.Sorted.{IsNonDecreasing};
 ghost use Rattle.std.specs.Option.{option_and_then};
@@ -9,6 +9,7 @@ ghost use Rattle.pf_notes.specs.Point.{joined_at};
 ghost use Rattle.pf_notes.specs.Leavers.{leaver_of, left_by, AreLeavers, units_beside, units_staying};
 ghost use Rattle.pf_notes.specs.Absence.{join_among};
 
+use crate::periods::quotient;
 use pf_scenario::event::{Event, Numbered};
 use pf_scenario::settings::Settings;
 use pf_tally::admitted::Admitted;
@@ -40,6 +41,13 @@ pub(crate) fn joined_by(settings: Settings, event: &Event) -> Option<Admitted>
         },
         _ => None,
     }
+}
+
+/// The greatest cost, of the period that the weight has, that asks for no more than these units; 0 where none does.
+pub(crate) fn cost_within(settings: Settings, weight: Weight, free: u64) -> u64
+    ensures { result ≡ free / (settings.base / weight.period) }
+{
+    quotient(free, quotient(settings.base().get(), weight.period()))
 }
 
 /// Whether the event joins the task.

@@ -1,8 +1,8 @@
-use crate::absence::Absence;
+use crate::absence::{Absence, joined_behind};
 use crate::grounds::Grounds;
 use crate::in_force::{before_event, event_of, in_force, is_held, join_among, leave_taken};
-use crate::inside::{joined_at, joined_by, load_of};
-use crate::walk::{bound_with, last_in, leaves_in, release_with, sub_of};
+use crate::inside::{cost_within, joined_at, joined_by, load_of};
+use crate::walk::{bound_with, last_in, leaves_in, ran_of, release_with, sub_of};
 use pf_admit::denial::Denial;
 use pf_desk::snapshot::Snapshot;
 use pf_run::denied::Denied;
@@ -101,8 +101,12 @@ impl<'a> Reasons<'a> {
             (Event::Join { .. }, Denial::OverCapacity) => {
                 self.over_capacity(alloc, before, numbered.event)
             }
-            (Event::Leave { task, .. }, Denial::NotInside) => Ok(self.not_inside(before, task)),
-            (Event::Delay { task, .. }, Denial::NotInside) => Ok(self.not_inside(before, task)),
+            (Event::Leave { slot, task }, Denial::NotInside) => {
+                Ok(self.not_inside(before, slot, task))
+            }
+            (Event::Delay { slot, task, .. }, Denial::NotInside) => {
+                Ok(self.not_inside(before, slot, task))
+            }
             (Event::Leave { slot, task }, Denial::TooEarly) => {
                 self.early_leave(alloc, before, slot, task)
             }
@@ -138,11 +142,13 @@ impl<'a> Reasons<'a> {
         let settings = self.snapshot.settings();
         let standing = self.standing(alloc, before)?;
         let load = load_of(alloc, settings, &standing)?;
+        let free = settings.cap().saturating_sub(load);
         match joined_by(settings, &join) {
             Some(joined) => Ok(Some(Grounds::OverCapacity {
                 asked: joined.weight.units(),
-                free: settings.cap().saturating_sub(load),
-                cap: settings.cap(),
+                free,
+                base: settings.base(),
+                cost: cost_within(settings, joined.weight, free),
             })),
             None => Ok(None),
         }
@@ -162,17 +168,24 @@ impl<'a> Reasons<'a> {
         leave_taken(before, &self.denied, task)
     }
 
-    /// Why the task, which this event joins, is not inside after these events.
-    fn absent_by(&self, before: &[Numbered], task: u64, join: Numbered) -> Option<Absence>
-        ensures { result ≡ absent_by self.now.denials before.now task (Some join) }
+    /// Why the task, which this event joins, is not inside at a point of this slot, after these events.
+    fn absent_by(
+        &self,
+        before: &[Numbered],
+        slot: u64,
+        task: u64,
+        join: Numbered,
+    ) -> Option<Absence>
+        ensures { result ≡ absent_by self.now.denials before.now slot task (Some join) }
     {
-        let slot = join.event.slot();
-        let event = join.id;
-        if !is_held(before, event) {
-            return Some(Absence::JoinsIn { slot, event });
+        if !is_held(before, join.id) {
+            return Some(joined_behind(slot, join));
         }
         if self.is_denied(&join) {
-            return Some(Absence::JoinDenied { slot, event });
+            return Some(Absence::JoinDenied {
+                slot: join.event.slot(),
+                event: join.id,
+            });
         }
         match self.leave_taken(before, task) {
             Some(leave) => Some(Absence::Left {
@@ -183,21 +196,21 @@ impl<'a> Reasons<'a> {
         }
     }
 
-    /// Why the task is not inside after these events.
-    fn absence_behind(&self, before: &[Numbered], task: u64) -> Option<Absence>
-        ensures { result ≡ absence_of self.now.state.plan.events self.now.denials before.now task }
+    /// Why the task is not inside at a point of this slot, after these events.
+    fn absence_behind(&self, before: &[Numbered], slot: u64, task: u64) -> Option<Absence>
+        ensures { result ≡ absence_of self.now.state.plan.events self.now.denials before.now slot task }
     {
         match join_among(self.snapshot.scenario(), task) {
-            Some(join) => self.absent_by(before, task, join),
+            Some(join) => self.absent_by(before, slot, task, join),
             None => Some(Absence::NoJoin),
         }
     }
 
     /// The same of a leave or a delay that was denied.
-    fn not_inside(&self, before: &[Numbered], task: u64) -> Option<Grounds>
-        ensures { result ≡ option_map (NotInside task) (absence_of self.now.state.plan.events self.now.denials before.now task) }
+    fn not_inside(&self, before: &[Numbered], slot: u64, task: u64) -> Option<Grounds>
+        ensures { result ≡ option_map (NotInside task) (absence_of self.now.state.plan.events self.now.denials before.now slot task) }
     {
-        match self.absence_behind(before, task) {
+        match self.absence_behind(before, slot, task) {
             Some(absence) => Some(Grounds::NotInside { task, absence }),
             None => None,
         }
@@ -215,13 +228,13 @@ impl<'a> Reasons<'a> {
         slot: u64,
     ) -> Result<Option<Absence>, AllocError>
         requires { slot < self.now.state.now }
-        ensures { IfOk result (λ a. a ≡ absence_of self.now.state.plan.events self.now.denials (past self.now.state.plan (slot + 1)) task) }
+        ensures { IfOk result (λ a. a ≡ absence_of self.now.state.plan.events self.now.denials (past self.now.state.plan (slot + 1)) slot task) }
     {
         let before = self.snapshot.scenario().events_before(slot + 1)?;
-        Ok(self.absence_behind(&before, task))
+        Ok(self.absence_behind(&before, slot, task))
     }
 
-    /// Which subtask ran before a leave in the slot, and when the task may leave.
+    /// Which subtask ran before a leave in the slot and when, and when the task may leave.
     fn leave_grounds(
         &self,
         alloc: Global,
@@ -240,13 +253,15 @@ impl<'a> Reasons<'a> {
         let bound = bound_with(settings, joined, &whole, quantum);
         let last = self.snapshot.now().min(settings.horizon() - 1);
         let from = leaves_in(settings, rows, joined, &whole, bound, slot, last);
+        let at_end = last_in(settings.processors(), rows, joined.task, last);
         Ok(Grounds::TooEarly {
             task: joined.task,
             sub: sub_of(quantum),
             slot,
-            bound,
+            ran: ran_of(quantum),
             from,
-            last,
+            later: bound_with(settings, joined, &whole, at_end),
+            horizon: settings.horizon(),
         })
     }
 

@@ -108,7 +108,7 @@ fn beside(change: Change) -> u64
 }
 
 /// The event that the change brings.
-fn brought_by(change: Change) -> Option<Event>
+pub(crate) fn brought_by(change: Change) -> Option<Event>
     ensures { result ≡ brought_by change }
 {
     match change {
@@ -136,7 +136,7 @@ fn is_other(id: u64, event: &Event, numbered: &Numbered) -> bool
 }
 
 /// The other event held that joins the task which the change joins, or leaves the one which it leaves.
-fn other_of(scenario: &Scenario, change: Change, event: Event) -> Option<u64>
+pub(crate) fn other_of(scenario: &Scenario, change: Change, event: Event) -> Option<u64>
     ensures { result ≡ other_of scenario.now change event }
 {
     match first_other(scenario, beside(change), event) {
@@ -339,7 +339,8 @@ fn push_would_deny(
 {
     push_between(text, b"event ", id, b", ")?;
     push_left(text, left_event(scenario, change, id))?;
-    push_denial(text, denial)
+    text.extend_from_slice(b", would be denied: ")?;
+    text.extend_from_slice(denial_words(denial).as_bytes())
 }
 
 /// Appends the record of an event, where there is one.
@@ -352,13 +353,16 @@ fn push_left(text: &mut Vec<u8>, event: Option<Event>) -> Result<(), AllocError>
     }
 }
 
-/// Appends why an event would be denied.
-#[tactic(auto, unfolding(crate::specs::Refusal::denied_text))]
-fn push_denial(text: &mut Vec<u8>, denial: Denial) -> Result<(), AllocError>
-    ensures { OnOk result (text.new.items ≡ text.old.items ++ denied_text denial) }
+/// Why an event would be denied.
+fn denial_words(denial: Denial) -> &'static str
+    ensures { result.now ≡ denied_text denial }
 {
-    push_between(text, b", would be denied, ", denial.code(), b" ")?;
-    text.extend_from_slice(denial.name().as_bytes())
+    match denial {
+        Denial::OverCapacity => "it asks for more than is free",
+        Denial::NotInside => "its task is not inside",
+        Denial::TooEarly => "it leaves too early",
+        Denial::Released => "its quantum was released already",
+    }
 }
 
 /// Appends the sentence that tells why the change was refused. The scenario is the one that refused it, and the name that of the

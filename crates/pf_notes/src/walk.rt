@@ -2,7 +2,7 @@ ghost use Rattle.std.specs.Prelude.{◌≡◌, ◌+◌, ◌-◌, ◌≤◌, All,
 ghost use Rattle.pf_scenario.specs.Edit.{IsEvent};
 ghost use Rattle.pf_scenario.specs.declared.settings.TheConstants.{WIDE_HORIZON};
 ghost use Rattle.pf_notes.specs.Point.{first_slot};
-ghost use Rattle.pf_notes.specs.Walk.{quantum_in, last_in, bound_with, bound_after, release_with, sub_of, lets_go_by, AreRunRows};
+ghost use Rattle.pf_notes.specs.Walk.{quantum_in, last_in, bound_with, bound_after, ran_of, release_with, sub_of, lets_go_by, AreRunRows};
 
 use crate::delays::{delays_through, seated_pick};
 use crate::quantum::Quantum;
@@ -145,6 +145,16 @@ pub(crate) fn sub_of(last: Option<Quantum>) -> u64
 {
     match last {
         Some(quantum) => u64::from(quantum.sub),
+        None => 0,
+    }
+}
+
+/// The slot of the quantum, 0 where there is none.
+pub(crate) fn ran_of(last: Option<Quantum>) -> u64
+    ensures { result ≡ ran_of last }
+{
+    match last {
+        Some(quantum) => quantum.slot,
         None => 0,
     }
 }

@@ -1,6 +1,7 @@
 -- The script of version 2 that belongs to a plan.
 use Rattle.std.specs.Prelude.{ℕ, ◌+◌, ◌-◌, ◌≡◌, true, if◌then◌else◌, map, Option, None, Some, Result, Ok, Err, List, [], ◌∷◌, ◌++◌}
 use Rattle.pf_desk.specs.Machine.{State, opening_state}
+use Rattle.pf_message.specs.Positions.{field_position}
 use Rattle.pf_vocabulary.specs.declared.names.titles.Titles.{Titles}
 use Rattle.pf_text.specs.Rows.Rows.{Row, rows}
 use Rattle.pf_script.specs.declared.line.Line.{Line}
@@ -79,29 +80,37 @@ abbrev pub plain_next : (Course → Plain) → Course → Origin → Result Said
 plain_next more c origin (Ok said) = with_said origin said (more (course_behind c said))
 plain_next more c origin (Err fault) = ended c.progress origin (Some fault)
 
+-- a record of this number that begins on this line, where each line's first byte that is no blank stands in this column
+abbrev pub origin_at : (ℕ → ℕ) → ℕ → ℕ → Origin
+origin_at column number line = record { number = number; line = line; column = column line }
+
 -- from the record of this number on, which is the first of these rows, of a text that ends on this line
-abbrev pub plain_from : Course → ℕ → ℕ → List Row → Plain
-plain_from c number end [] = ended c.progress (record { number = number; line = end }) (end_fault c.progress)
-plain_from c number end (row ∷ rows) =
-    plain_next (λ next. plain_from next (number + 1) end rows) c (record { number = number; line = row.line }) (said_at c.progress row.fields)
+abbrev pub plain_from : (ℕ → ℕ) → Course → ℕ → ℕ → List Row → Plain
+plain_from column c number end [] = ended c.progress (origin_at column number end) (end_fault c.progress)
+plain_from column c number end (row ∷ rows) =
+    plain_next (λ next. plain_from column next (number + 1) end rows) c (origin_at column number row.line) (said_at c.progress row.fields)
 
 -- after the heading
-abbrev pub with_heading : ℕ → Plain → Plain
-with_heading line p = record p { records = heading_fields ∷ p.records; origins = record { number = 1; line = line } ∷ p.origins }
+abbrev pub with_heading : (ℕ → ℕ) → ℕ → Plain → Plain
+with_heading column line p = record p { records = heading_fields ∷ p.records; origins = origin_at column 1 line ∷ p.origins }
 
 -- behind a heading on this line, which may have a fault: then it is the first bad record, and no other is read
-abbrev pub plain_behind : Option RecordFault → ℕ → ℕ → List Row → Plain
-plain_behind None line end rows = plain_from start 2 end rows
-plain_behind (Some fault) line end rows = ended start.progress (record { number = 1; line = line }) (Some fault)
+abbrev pub plain_behind : (ℕ → ℕ) → Option RecordFault → ℕ → ℕ → List Row → Plain
+plain_behind column None line end rows = plain_from column start 2 end rows
+plain_behind column (Some fault) line end rows = ended start.progress (origin_at column 1 line) (Some fault)
 
 -- a text whose first row is no heading of a plan is no plan
-abbrev pub plain_of : ℕ → List Row → Option Plain
-plain_of end [] = None
-plain_of end (row ∷ rows) =
-    if is_plan_heading row.fields then Some (with_heading row.line (plain_behind (heading_fault row.fields) row.line end rows)) else None
+abbrev pub plain_of : (ℕ → ℕ) → ℕ → List Row → Option Plain
+plain_of column end [] = None
+plain_of column end (row ∷ rows) =
+    if is_plan_heading row.fields then Some (with_heading column row.line (plain_behind column (heading_fault row.fields) row.line end rows)) else None
+
+-- the column of the first byte of a line that is no blank
+abbrev pub first_column : List ℕ → ℕ → ℕ
+first_column bytes line = (field_position bytes (record { line = line; number = 1; trims = true })).column
 
 abbrev pub plain : List ℕ → Option Plain
-plain bytes = plain_of (rows bytes).end (rows bytes).rows
+plain bytes = plain_of (first_column bytes) (rows bytes).end (rows bytes).rows
 
 -- a script of version 2 with these records
 pub record IsPlain (s : PlainScript) (p : Plain) : Type 0 where

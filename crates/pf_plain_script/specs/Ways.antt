@@ -12,12 +12,12 @@ use Rattle.pf_plain_script.specs.Written.{heading_fields, said_records}
 abbrev pub course_of : PlainWriter → Course
 course_of w = record { progress = w.progress; desk = w.desk }
 
--- it has the heading alone, which stands on this line
-pub record IsFresh (line : ℕ) (w : PlainWriter) : Type 0 where
+-- it has the heading alone, which stands there
+pub record IsFresh (origin : Origin) (w : PlainWriter) : Type 0 where
   pub course : course_of w ≡ start
   pub fields : w.table.fields ≡ []
   pub text : w.table.text ≡ table_text (heading_fields ∷ [])
-  pub origins : w.origins.items ≡ record { number = 1; line = line } ∷ []
+  pub origins : w.origins.items ≡ origin ∷ []
 
 -- the records of what was said were added, and it was noted
 pub record HasTaken (origin : Origin) (said : Said) (old new : PlainWriter) : Type 0 where

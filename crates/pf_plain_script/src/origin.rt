@@ -5,4 +5,6 @@ pub struct Origin {
     pub number: u64,
     /// The line of the file on which it begins, counted from 1.
     pub line: u64,
+    /// The first byte of that line that is no blank, counted from 1.
+    pub column: u64,
 }

@@ -6,7 +6,7 @@ use crate::origin::Origin;
 use crate::plain::PlainScript;
 use crate::writing::{push_line, push_settings};
 use pf_script::line::Line;
-use pf_script::plan::fault::BadRecord;
+use pf_script::plan::fault::{BadRecord, RecordFault};
 use pf_script::plan::said::Said;
 use pf_script::plan::state::Progress;
 use pf_text::table::Table;
@@ -31,16 +31,16 @@ impl PlainWriter {
     ghost use Rattle.pf_plain_script.specs.Ways.{Ends, HasTaken, HasWritten, IsFresh};
     ghost use Rattle.pf_script.specs.Plan.Parsing.{end_fault};
 
-    /// The heading, which stands on this line.
-    pub(crate) fn new(alloc: Global, line: u64) -> Result<Self, AllocError>
-        ensures { IfOk result (IsFresh line) }
+    /// The heading, which stands there.
+    pub(crate) fn new(alloc: Global, origin: Origin) -> Result<Self, AllocError>
+        ensures { IfOk result (IsFresh origin) }
     {
         let mut table = Table::new(alloc);
         table.show("pfair")?;
         table.show("2")?;
         table.end_record()?;
         let mut origins = Vec::new(alloc);
-        origins.push(Origin { number: 1, line })?;
+        origins.push(origin)?;
         Ok(PlainWriter {
             alloc,
             progress: Progress::new(alloc),
@@ -80,35 +80,35 @@ impl PlainWriter {
         }
     }
 
-    /// Ends the script, which the text does on this line: the record of this number is none.
+    /// Ends the script, which the text does there: the record of this number is none.
     pub(crate) fn end(self, origin: Origin) -> Result<PlainScript, AllocError>
         requires { self.table.fields ≡ [] }
         ensures { IfOk result (Ends self (ended self.progress origin (end_fault self.progress))) }
     {
-        let Origin { number, line } = origin;
         match self.progress.end_fault() {
-            Some(fault) => self.stop(BadRecord {
-                number,
-                line,
-                fault,
-            }),
-            None => self.finish(None, number.saturating_sub(1)),
+            Some(fault) => self.stop(origin, fault),
+            None => self.finish(None, origin.number.saturating_sub(1)),
         }
     }
 
-    /// Ends the script in a bad record.
-    pub(crate) fn stop(mut self, bad: BadRecord) -> Result<PlainScript, AllocError>
+    /// Ends the script in a bad record, which has this fault.
+    pub(crate) fn stop(
+        mut self,
+        origin: Origin,
+        fault: RecordFault,
+    ) -> Result<PlainScript, AllocError>
         requires { self.table.fields ≡ [] }
-        ensures { IfOk result
-            (Ends self (ended self.progress (record { number = bad.number; line = bad.line }) (Some bad.fault))) }
+        ensures { IfOk result (Ends self (ended self.progress origin (Some fault))) }
     {
         self.table.show_nothing()?;
         self.table.end_record()?;
-        self.origins.push(Origin {
-            number: bad.number,
-            line: bad.line,
-        })?;
-        self.finish(Some(bad), bad.number)
+        self.origins.push(origin)?;
+        let bad = BadRecord {
+            number: origin.number,
+            line: origin.line,
+            fault,
+        };
+        self.finish(Some(bad), origin.number)
     }
 
     /// Ends the script, whose last record has this number.

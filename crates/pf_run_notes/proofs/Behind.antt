@@ -1,5 +1,5 @@
 -- The notes after a run, by their parts.
-use Rattle.std.proofs.Common.{◌≡◌, ℕ, ◌-◌, List, [], ◌∷◌, ◌++◌, length, take, refl, ap, ap₂, ◌∙◌, append_assoc}
+use Rattle.std.proofs.Common.{◌≡◌, ℕ, Bool, true, ◌-◌, List, [], ◌∷◌, ◌++◌, length, take, refl, ap, ap₂, ◌∙◌, append_assoc}
 use Rattle.std.specs.List.{flat_map}
 use Rattle.pf_vocabulary.specs.declared.names.named.Named.{Named}
 use Rattle.pf_scenario.specs.Scenario.{Plan}
@@ -25,14 +25,14 @@ late_told file names made s misses counts (miss ∷ firsts) each =
     (late_told file names made s misses counts firsts each)
 
 -- Use: one part after another.
-pub lists_told : (file : List ℕ) (names : List Named) (made : List Place) (kept : Kept) (seen : Seen) (r : List Slot) (misses firsts : List Miss)
+pub lists_told : (file : List ℕ) (hints : Bool) (names : List Named) (made : List Place) (kept : Kept) (seen : Seen) (r : List Slot) (misses firsts : List Miss)
     (counts : Grown ℕ) (before lines : ℕ) (t u v w : List ℕ) → AreLate misses firsts counts →
     before ≡ more kept.records (length seen.denials) → lines ≡ more before (length firsts) → t ≡ kept.lines →
-    u ≡ t ++ flat_map (denied_note file names made seen.state.plan r) (take (kept.most - kept.records) seen.denials) →
+    u ≡ t ++ flat_map (denied_note file hints names made seen.state.plan r) (take (kept.most - kept.records) seen.denials) →
     v ≡ u ++ late_lines file names made seen.state.plan.events counts (take (kept.most - before) firsts) →
-    w ≡ v ++ more_text kept.most lines → w ≡ lists_with file names made kept seen r misses
-lists_told file names made kept seen r misses firsts counts before lines t u v w are of_before of_lines of_t of_u of_v of_w =
-    let d = flat_map (denied_note file names made seen.state.plan r) (take (kept.most - kept.records) seen.denials) in
+    w ≡ v ++ more_text kept.most lines → w ≡ lists_with file hints names made kept seen r misses
+lists_told file hints names made kept seen r misses firsts counts before lines t u v w are of_before of_lines of_t of_u of_v of_w =
+    let d = flat_map (denied_note file hints names made seen.state.plan r) (take (kept.most - kept.records) seen.denials) in
     let l = late_lines file names made seen.state.plan.events counts (take (kept.most - before) firsts) in
     let whole : lines ≡ lines_of kept seen misses =
     of_lines ∙ ap₂ (λ b (fs : List Miss). more b (length fs)) of_before are.of_tasks in
@@ -57,18 +57,18 @@ lines_counted kept seen misses firsts counts before lines are of_before of_lines
 -- Use: the counts after the lists.
 pub notes_told : (file : List ℕ) (names : List Named) (made : List Place) (kept : Kept) (seen : Seen) (r : List Slot) (misses : List Miss)
     (missed lines : ℕ) (w x : List ℕ) → missed ≡ length misses → lines ≡ lines_of kept seen misses →
-    w ≡ lists_with file names made kept seen r misses →
+    w ≡ lists_with file true names made kept seen r misses →
     x ≡ w ++ counts_text file lines kept.commands (length seen.denials) missed → x ≡ notes_with file names made kept seen r misses
 notes_told file names made kept seen r misses missed lines w x of_missed of_lines of_w of_x =
     of_x ∙ ap (λ w. w ++ counts_text file lines kept.commands (length seen.denials) missed) of_w
-    ∙ ap₂ (λ n m. lists_with file names made kept seen r misses ++ counts_text file n kept.commands (length seen.denials) m) of_lines of_missed
+    ∙ ap₂ (λ n m. lists_with file true names made kept seen r misses ++ counts_text file n kept.commands (length seen.denials) m) of_lines of_missed
 
 -- Use: the misses are those of the run.
-pub lists_are : (file : List ℕ) (names : List Named) (made : List Place) (kept : Kept) (seen : Seen) (misses : List Miss) →
+pub lists_are : (file : List ℕ) (hints : Bool) (names : List Named) (made : List Place) (kept : Kept) (seen : Seen) (misses : List Miss) →
     misses ≡ misses_of seen.state.plan (run_of seen.state.plan seen.state.now) →
-    lists_with file names made kept seen (run_of seen.state.plan seen.state.now) misses ≡ lists_text file names made kept seen
+    lists_with file hints names made kept seen (run_of seen.state.plan seen.state.now) misses ≡ lists_text file hints names made kept seen
 unfolding lists_text
-lists_are file names made kept seen misses is = ap (lists_with file names made kept seen (run_of seen.state.plan seen.state.now)) is
+lists_are file hints names made kept seen misses is = ap (lists_with file hints names made kept seen (run_of seen.state.plan seen.state.now)) is
 
 pub notes_are : (file : List ℕ) (names : List Named) (made : List Place) (kept : Kept) (seen : Seen) (misses : List Miss) →
     misses ≡ misses_of seen.state.plan (run_of seen.state.plan seen.state.now) →

@@ -1,48 +1,47 @@
--- The lines of notes.
-use Rattle.std.specs.Prelude.{ℕ, Option, None, Some, List, ◌++◌, codes}
+-- The lines behind a run.
+use Rattle.std.specs.Prelude.{ℕ, Bool, if◌then◌else◌, Option, None, Some, List, [], ◌∷◌, ◌++◌, codes}
 use Rattle.std.specs.Fmt.{decimal}
-use Rattle.pf_admit.specs.Refusals.{denial_code, denial_name}
-use Rattle.pf_admit.specs.declared.denial.Denial.{Denial}
 use Rattle.pf_scenario.specs.declared.event.Numbered.{Numbered}
 use Rattle.pf_tally.specs.declared.miss.Miss.{Miss}
-use Rattle.pf_notes.specs.Subject.{task_text, subtask_text}
+use Rattle.pf_notes.specs.Subject.{subtask_text}
 use Rattle.pf_notes.specs.Refusal.{record_text}
+use Rattle.pf_message.specs.Form.{hint_line}
 use Rattle.pf_text.specs.FileName.{file_text}
 use Rattle.pf_run_notes.specs.Places.{place_text}
 use Rattle.pf_run_notes.specs.declared.place.Place.{Place}
 
--- a word, the number and the name of a rule, and the sentence
-unfoldable pub ruled_text : List ℕ → ℕ → List ℕ → List ℕ → List ℕ
-ruled_text word code name sentence = word ++ decimal code ++ codes " " ++ name ++ codes ": " ++ sentence ++ codes "\n"
+-- what would be right, where hints are asked for, and its line, where there is something
+abbrev pub hint_if : Bool → List ℕ → List ℕ
+hint_if hints hint = if hints then hint else []
 
--- a record whose command was refused
-abbrev pub refused_line : List ℕ → Place → ℕ → List ℕ → List ℕ → List ℕ
-refused_line file place code name sentence = place_text file place ++ ruled_text (codes ": refused ") code name sentence
+abbrev pub hint_text : List ℕ → List ℕ
+hint_text [] = []
+hint_text (byte ∷ bytes) = hint_line (byte ∷ bytes)
 
--- an event of a record
+-- a record whose command was refused, the sentence that tells why, and its hint
+abbrev pub refused_line : List ℕ → Place → List ℕ → List ℕ → List ℕ
+refused_line file place sentence hint = place_text file place ++ codes "refused: " ++ sentence ++ codes "\n" ++ hint_text hint
+
+-- an event, with its record
 unfoldable pub event_text : Numbered → List ℕ
-event_text x = codes ": event " ++ decimal x.id ++ codes ", " ++ record_text x.event
+event_text x = codes "denied: event " ++ decimal x.id ++ codes ", " ++ record_text x.event ++ codes ": "
 
 -- an event that was denied, with the place of the record that made it as it stands
-abbrev pub denied_line : List ℕ → Place → Numbered → Denial → List ℕ → List ℕ
-denied_line file place x denial sentence =
-    place_text file place ++ event_text x ++ ruled_text (codes ": denied ") (denial_code denial) (denial_name denial) sentence
+abbrev pub denied_line : List ℕ → Place → Numbered → List ℕ → List ℕ → List ℕ
+denied_line file place x sentence hint = place_text file place ++ event_text x ++ sentence ++ codes "\n" ++ hint_text hint
 
 -- when a window that was missed ran
-unfoldable pub not_run_text : List ℕ
-not_run_text = codes ", did not run, "
-
-unfoldable pub ran_in_text : ℕ → List ℕ
-ran_in_text slot = codes ", ran in slot " ++ decimal slot ++ codes ", "
-
 abbrev pub ran_text : Option ℕ → List ℕ
-ran_text None = not_run_text
-ran_text (Some slot) = ran_in_text slot
+ran_text None = codes " and did not run; "
+ran_text (Some slot) = codes " and ran in slot " ++ decimal slot ++ codes "; "
+
+-- before which slot a window had to run
+unfoldable pub due_text : ℕ → List ℕ
+due_text slot = codes " had to run before slot " ++ decimal slot
 
 -- a window of a task with this name
 unfoldable pub window_text : Option (List ℕ) → Miss → List ℕ
-window_text name miss =
-    codes ", " ++ task_text name miss.task ++ codes ": missed " ++ subtask_text name miss.task miss.sub ++ codes ", due " ++ decimal miss.deadline
+window_text name miss = codes "missed: " ++ subtask_text name miss.task miss.sub ++ due_text miss.deadline
 
 -- the first window that a task missed, with how many it missed, and the place of the record that made its join
 abbrev pub missed_line : List ℕ → Place → Option (List ℕ) → Miss → ℕ → List ℕ

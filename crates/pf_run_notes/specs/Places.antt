@@ -1,9 +1,8 @@
 -- The place of a record in a file.
-use Rattle.std.specs.Prelude.{ℕ, List, ◌++◌, codes}
-use Rattle.std.specs.Fmt.{decimal}
-use Rattle.pf_text.specs.FileName.{file_text}
+use Rattle.std.specs.Prelude.{ℕ, List}
+use Rattle.pf_message.specs.Form.{position_front}
 use Rattle.pf_run_notes.specs.declared.place.Place.{Place}
 
--- `FILE:LINE: record N`
-unfoldable pub place_text : List ℕ → Place → List ℕ
-place_text file place = file_text file ++ codes ":" ++ decimal place.line ++ codes ": record " ++ decimal place.record
+-- `FILE:LINE:COLUMN: `
+abbrev pub place_text : List ℕ → Place → List ℕ
+place_text file place = position_front file (record { line = place.line; column = place.column })

@@ -1,12 +1,13 @@
 -- What is kept of refused commands.
-use Rattle.std.specs.Prelude.{ℕ, ◌+◌, ◌-◌, ◌^◌, nat_lt, min, if◌then◌else◌, Option, List, ◌++◌, codes}
+use Rattle.std.specs.Prelude.{ℕ, ◌+◌, ◌-◌, ◌^◌, nat_lt, min, if◌then◌else◌, Bool, Option, List, [], ◌++◌, codes}
 use Rattle.pf_scenario.specs.Scenario.{Plan}
 use Rattle.pf_scenario.specs.Refusals.{edit_fault_code, edit_fault_name}
 use Rattle.pf_scenario.specs.declared.change.Change.{Change}
 use Rattle.pf_notes.specs.Fault.{Fault}
 use Rattle.pf_notes.specs.Fault.TheVariants.{BadEdit, AtHorizon, WouldDeny}
+use Rattle.pf_notes.specs.Hints.{refusal_hint}
 use Rattle.pf_notes.specs.Refusal.{refusal_text, horizon_text}
-use Rattle.pf_run_notes.specs.Lines.{refused_line}
+use Rattle.pf_run_notes.specs.Lines.{hint_if, refused_line}
 use Rattle.pf_run_notes.specs.declared.place.Place.{Place}
 
 -- the number and the name of a refusal
@@ -41,9 +42,9 @@ kept_after k line n = record {
 }
 
 -- the line of a refused change, and that of refused steps
-abbrev pub change_line : List ℕ → Place → Option (List ℕ) → Plan → Change → Fault → List ℕ
-change_line file place name s change fault = refused_line file place (fault_code fault) (fault_name fault) (refusal_text name s change fault)
+abbrev pub change_line : List ℕ → Bool → Place → Option (List ℕ) → Plan → Change → Fault → List ℕ
+change_line file hints place name s change fault =
+    refused_line file place (refusal_text name s change fault) (hint_if hints (refusal_hint s change fault))
 
 abbrev pub steps_line : List ℕ → Place → ℕ → ℕ → ℕ → List ℕ
-steps_line file place horizon refused steps =
-    refused_line file place (fault_code AtHorizon) (fault_name AtHorizon) (horizon_text horizon refused steps)
+steps_line file place horizon refused steps = refused_line file place (horizon_text horizon refused steps) []

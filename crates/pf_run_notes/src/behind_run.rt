@@ -22,10 +22,11 @@ fn count_lines(refusals: &Refusals, snapshot: &Snapshot, late: &LateTasks) -> u6
     before.saturating_add(late.firsts.len() as u64)
 }
 
-/// The lists of a run with these reasons and these late tasks.
+/// The lists of a run with these reasons and these late tasks; with hints, where they are asked for.
 fn lists_with(
     alloc: Global,
     file: &[u8],
+    hints: bool,
     names: &Names,
     made: &Made,
     refusals: &Refusals,
@@ -35,7 +36,7 @@ fn lists_with(
 ) -> Result<Vec<u8>, AllocError>
     requires { reasons.now ≡ snapshot.now }
     ensures { (misses : List Miss) → AreLate misses late.now.firsts.items late.now.counts →
-        IfOk result (λ text. text.items ≡ lists_with file.now names.now made.now refusals.now snapshot.now
+        IfOk result (λ text. text.items ≡ lists_with file.now hints names.now made.now refusals.now snapshot.now
         (run_of snapshot.now.state.plan snapshot.now.state.now) misses) }
 {
     let denials = snapshot.denials();
@@ -48,7 +49,7 @@ fn lists_with(
     let firsts = front(&late.firsts, most.saturating_sub(before));
     let mut text = Vec::from_slice(alloc, refusals.lines())?;
     push_denials(
-        alloc, &mut text, file, names, made, scenario, reasons, shown,
+        alloc, &mut text, file, hints, names, made, scenario, reasons, shown,
     )?;
     push_late_tasks(&mut text, file, names, made, scenario, &late.counts, firsts)?;
     push_rest(&mut text, most, lines)?;
@@ -74,14 +75,16 @@ fn notes_with(
 {
     let denied = snapshot.denials().len() as u64;
     let lines = count_lines(refusals, snapshot, late);
-    let mut text = lists_with(alloc, file, names, made, refusals, snapshot, reasons, late)?;
+    let mut text = lists_with(
+        alloc, file, true, names, made, refusals, snapshot, reasons, late,
+    )?;
     push_last(&mut text, file, lines, refusals.commands(), denied, missed)?;
     Ok(text)
 }
 
-/// What is listed after a run: a line for each of the first refused records, denied events and tasks that missed windows, and how
-/// many lines more there are. `refusals` and `made` were kept while the script of this name was carried out, and the snapshot was
-/// taken after it.
+/// What is listed after a run, with hints, where they are asked for: a line for each of the first refused records, denied events and
+/// tasks that missed windows, and how many lines more there are. `refusals` and `made` were kept while the script of this name was
+/// carried out, and the snapshot was taken after it.
 ///
 /// # Errors
 ///
@@ -89,23 +92,24 @@ fn notes_with(
 pub fn lists(
     alloc: Global,
     file: &[u8],
+    hints: bool,
     names: &Names,
     made: &Made,
     refusals: &Refusals,
     snapshot: &Snapshot,
 ) -> Result<Vec<u8>, AllocError>
-    ensures { IfOk result (λ text. text.items ≡ lists_text file.now names.now made.now refusals.now snapshot.now) }
+    ensures { IfOk result (λ text. text.items ≡ lists_text file.now hints names.now made.now refusals.now snapshot.now) }
 {
     let reasons = Reasons::of(alloc, snapshot)?;
     let misses = snapshot.misses()?;
     let late = late_tasks(alloc, &misses)?;
     lists_with(
-        alloc, file, names, made, refusals, snapshot, &reasons, &late,
+        alloc, file, hints, names, made, refusals, snapshot, &reasons, &late,
     )
 }
 
-/// The notes after a run: a line for each of the first refused records, denied events and tasks that missed windows, how many
-/// lines more there are, and how many commands were refused, events denied and windows missed; nothing where there is none.
+/// The notes after a run, with hints: a line for each of the first refused records, denied events and tasks that missed windows, how
+/// many lines more there are, and how many commands were refused, events denied and windows missed; nothing where there is none.
 /// `refusals` and `made` were kept while the script of this name was carried out, and the snapshot was taken after it.
 ///
 /// # Errors

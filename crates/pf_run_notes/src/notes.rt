@@ -1,4 +1,4 @@
-ghost use Rattle.std.specs.Prelude.{◌≡◌, ◌++◌, take, OnOk};
+ghost use Rattle.std.specs.Prelude.{◌≡◌, ◌++◌, take, IfOk, OnOk};
 ghost use Rattle.std.specs.List.{flat_map};
 ghost use Rattle.std.specs.Option.{option_map, option_and_then};
 ghost use Rattle.pf_vocabulary.specs.Names.Names.{name_of};
@@ -6,8 +6,9 @@ ghost use Rattle.pf_scenario.specs.Event.{is_join_of};
 ghost use Rattle.pf_run.specs.Computed.{run_of};
 ghost use Rattle.pf_notes.specs.Absence.{join_among};
 ghost use Rattle.pf_notes.specs.Grounds.{task_of_grounds};
+ghost use Rattle.pf_notes.specs.Hints.{grounds_hint};
 ghost use Rattle.pf_notes.specs.Point.{event_of};
-ghost use Rattle.pf_run_notes.specs.Lines.{denied_line};
+ghost use Rattle.pf_run_notes.specs.Lines.{denied_line, hint_if};
 ghost use Rattle.pf_run_notes.specs.Notes.{counts_text, denied_note, late_lines, missed_with, more_text, sentence_of};
 
 use crate::lines::{push_counts, push_denied, push_missed, push_more};
@@ -15,6 +16,7 @@ use crate::made::Made;
 use crate::place::Place;
 use pf_collections::table::table::Table;
 use pf_notes::grounds::{Grounds, push_grounds};
+use pf_notes::hint::push_grounds_hint;
 use pf_notes::reasons::Reasons;
 use pf_run::denied::Denied;
 use pf_scenario::event::{Event, Numbered};
@@ -77,22 +79,35 @@ pub fn join_of(scenario: &Scenario, task: u64) -> Option<Numbered>
     None
 }
 
-/// Appends the line of a denial, of this event, made by this record, on these grounds.
+/// What would be right in place of an event whose denial rests on these grounds, where hints are asked for.
+fn grounds_hint(alloc: Global, hints: bool, grounds: &Grounds) -> Result<Vec<u8>, AllocError>
+    ensures { IfOk result (λ hint. hint.items ≡ hint_if hints (grounds_hint grounds.now)) }
+{
+    let mut hint = Vec::new(alloc);
+    if hints {
+        push_grounds_hint(&mut hint, grounds)?;
+    }
+    Ok(hint)
+}
+
+/// Appends the line of a denial, of this event, made by this record, on these grounds, and that of its hint.
 fn push_denial(
     alloc: Global,
     text: &mut Vec<u8>,
     file: &[u8],
+    hints: bool,
     names: &Names,
-    denied: Denied,
     numbered: Numbered,
     place: Place,
     grounds: Grounds,
 ) -> Result<(), AllocError>
-    ensures { OnOk result (text.new.items ≡ text.old.items ++ denied_line file.now place numbered denied.denial (sentence_of names.now grounds)) }
+    ensures { OnOk result (text.new.items ≡ text.old.items ++ denied_line file.now place numbered (sentence_of names.now grounds)
+        (hint_if hints (grounds_hint grounds))) }
 {
+    let hint = grounds_hint(alloc, hints, &grounds)?;
     let mut sentence = Vec::new(alloc);
     push_grounds(&mut sentence, name_in(names, &grounds), &grounds)?;
-    push_denied(text, file, place, numbered, denied.denial, &sentence)
+    push_denied(text, file, place, numbered, &sentence, &hint)
 }
 
 /// Appends the line of a task that missed so many windows, this one first.
@@ -164,6 +179,7 @@ fn push_denied_note(
     alloc: Global,
     text: &mut Vec<u8>,
     file: &[u8],
+    hints: bool,
     names: &Names,
     made: &Made,
     scenario: &Scenario,
@@ -172,14 +188,14 @@ fn push_denied_note(
 ) -> Result<(), AllocError>
     requires { scenario.now ≡ reasons.now.state.plan }
     ensures { OnOk result (text.new.items ≡ text.old.items
-        ++ denied_note file.now names.now made.now scenario.now (run_of scenario.now reasons.now.state.now) denied) }
+        ++ denied_note file.now hints names.now made.now scenario.now (run_of scenario.now reasons.now.state.now) denied) }
 {
     let grounds = reasons.grounds(alloc, denied)?;
     let numbered = event_of(scenario, denied.id);
     let place = made.maker(denied.id);
     match (numbered, place, grounds) {
         (Some(numbered), Some(place), Some(grounds)) => {
-            push_denial(alloc, text, file, names, denied, numbered, place, grounds)
+            push_denial(alloc, text, file, hints, names, numbered, place, grounds)
         }
         _ => Ok(()),
     }
@@ -190,6 +206,7 @@ pub(crate) fn push_denials(
     alloc: Global,
     text: &mut Vec<u8>,
     file: &[u8],
+    hints: bool,
     names: &Names,
     made: &Made,
     scenario: &Scenario,
@@ -198,10 +215,12 @@ pub(crate) fn push_denials(
 ) -> Result<(), AllocError>
     requires { scenario.now ≡ reasons.now.state.plan }
     ensures { OnOk result (text.new.items ≡ text.old.items
-        ++ flat_map (denied_note file.now names.now made.now scenario.now (run_of scenario.now reasons.now.state.now)) denials.now) }
+        ++ flat_map (denied_note file.now hints names.now made.now scenario.now (run_of scenario.now reasons.now.state.now)) denials.now) }
 {
     for denied in denials {
-        push_denied_note(alloc, text, file, names, made, scenario, reasons, *denied)?;
+        push_denied_note(
+            alloc, text, file, hints, names, made, scenario, reasons, *denied,
+        )?;
     }
     Ok(())
 }

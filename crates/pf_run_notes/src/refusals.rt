@@ -1,10 +1,13 @@
-ghost use Rattle.std.specs.Prelude.{◌≡◌, ◌++◌, OnOk};
+ghost use Rattle.std.specs.Prelude.{◌≡◌, ◌++◌, IfOk, OnOk};
 ghost use Rattle.std.specs.Option.{option_map};
+ghost use Rattle.pf_notes.specs.Hints.{refusal_hint};
+ghost use Rattle.pf_run_notes.specs.Lines.{hint_if};
 ghost use Rattle.pf_run_notes.specs.Refusals.{change_line, fault_code, fault_name, steps_line};
 
 use crate::lines::push_refused;
 use crate::place::Place;
 use pf_desk::reply::Fault;
+use pf_notes::hint::push_refusal_hint;
 use pf_notes::refusal::{push_horizon, push_refusal};
 use pf_scenario::change::Change;
 use pf_scenario::scenario::Scenario;
@@ -44,23 +47,39 @@ pub struct RefusedChange {
     pub fault: Fault,
 }
 
-/// Appends the line of a change that this scenario refused. The name is that of its task, where it has one.
+/// What would be right in place of a change that this scenario refused, where hints are asked for.
+fn change_hint(
+    alloc: Global,
+    hints: bool,
+    scenario: &Scenario,
+    refused: RefusedChange,
+) -> Result<Vec<u8>, AllocError>
+    ensures { IfOk result (λ hint. hint.items ≡ hint_if hints (refusal_hint scenario.now refused.change refused.fault)) }
+{
+    let mut hint = Vec::new(alloc);
+    if hints {
+        push_refusal_hint(&mut hint, scenario, refused.change, refused.fault)?;
+    }
+    Ok(hint)
+}
+
+/// Appends the line of a change that this scenario refused, and that of its hint. The name is that of its task, where it has one.
 fn push_change_line(
     alloc: Global,
     text: &mut Vec<u8>,
     file: &[u8],
+    hints: bool,
     name: Option<&[u8]>,
     scenario: &Scenario,
     refused: RefusedChange,
 ) -> Result<(), AllocError>
     ensures { OnOk result (text.new.items ≡ text.old.items
-        ++ change_line file.now refused.place (option_map (λ n. n.now) name.entry) scenario.now refused.change refused.fault) }
+        ++ change_line file.now hints refused.place (option_map (λ n. n.now) name.entry) scenario.now refused.change refused.fault) }
 {
+    let hint = change_hint(alloc, hints, scenario, refused)?;
     let mut sentence = Vec::new(alloc);
     push_refusal(&mut sentence, name, scenario, refused.change, refused.fault)?;
-    let code = fault_code(refused.fault);
-    let rule = fault_name(refused.fault);
-    push_refused(text, file, refused.place, code, rule, &sentence)
+    push_refused(text, file, refused.place, &sentence, &hint)
 }
 
 /// Appends the line of steps of a record that were refused at the horizon.
@@ -77,15 +96,7 @@ fn push_steps_line(
 {
     let mut sentence = Vec::new(alloc);
     push_horizon(&mut sentence, horizon, refused, steps)?;
-    let code = fault_code(Fault::AtHorizon);
-    push_refused(
-        text,
-        file,
-        place,
-        code,
-        fault_name(Fault::AtHorizon),
-        &sentence,
-    )
+    push_refused(text, file, place, &sentence, b"")
 }
 
 /// What is kept of refused commands: the lines of the first records that had one, and how many there were.
@@ -159,7 +170,8 @@ impl Refusals {
         self.commands = self.commands.saturating_add(commands);
     }
 
-    /// A record's change was refused by this scenario. The name is that of the change's task, where it has one.
+    /// A record's change was refused by this scenario. The name is that of the change's task, where it has one; a line with what would
+    /// be right follows where hints are asked for.
     ///
     /// # Errors
     ///
@@ -168,15 +180,16 @@ impl Refusals {
         &mut self,
         alloc: Global,
         file: &[u8],
+        hints: bool,
         name: Option<&[u8]>,
         scenario: &Scenario,
         refused: RefusedChange,
     ) -> Result<(), AllocError>
         ensures { OnOk result (self.new ≡ kept_after self.old
-            (change_line file.now refused.place (option_map (λ n. n.now) name.entry) scenario.now refused.change refused.fault) 1) }
+            (change_line file.now hints refused.place (option_map (λ n. n.now) name.entry) scenario.now refused.change refused.fault) 1) }
     {
         if self.records < self.most {
-            push_change_line(alloc, &mut self.lines, file, name, scenario, refused)?;
+            push_change_line(alloc, &mut self.lines, file, hints, name, scenario, refused)?;
         }
         self.count(1);
         Ok(())

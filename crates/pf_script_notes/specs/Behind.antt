@@ -1,5 +1,5 @@
 -- What is told after a run of a script.
-use Rattle.std.specs.Prelude.{ℕ, ◌≡◌, Option, None, Some, List, [], Result, Ok, Err, Vec, false}
+use Rattle.std.specs.Prelude.{ℕ, ◌≡◌, Option, None, Some, List, [], Result, Ok, Err, Vec, false, true}
 use Rattle.std.specs.declared.alloc.Global.{Global}
 use Rattle.pf_script_run.specs.Carried.{Stops}
 use Rattle.pf_desk.specs.Desk.{Seen}
@@ -23,7 +23,7 @@ pub record RunNotes (file : List ℕ) (origins : Option (List Origin)) (names : 
   pub seen : Seen
   pub behind : IsSeenBehind (told script) seen
   pub came : Recounted
-  pub counted : Some came ≡ recounted file names origins most_lines false script
+  pub counted : Some came ≡ recounted file true names origins most_lines false script
   pub is : text ≡ notes_text file names came.made came.refusals seen
 
 -- of a script the text of version 1 or 2, the records that its own come from, and the names, by the script of version 2 that

@@ -1,4 +1,4 @@
-ghost use Rattle.std.specs.Prelude.{false, ◌≡◌, Some, IfOk, IfErr};
+ghost use Rattle.std.specs.Prelude.{false, true, ◌≡◌, Some, IfOk, IfErr};
 ghost use Rattle.std.specs.Option.{option_map};
 ghost use Rattle.pf_script_run.specs.Carried.{IsOf, Stops};
 ghost use Rattle.pf_script_results.specs.Recount.{recounted};
@@ -119,9 +119,11 @@ fn recount_of(
     desk: &Desk,
 ) -> Result<Recount, AllocError>
     requires { IsOf (told script.now) desk.now }
-    ensures { IfOk result (λ r. Some r ≡ recounted file.now names.now (option_map (λ o. o.now) origins.entry) most_lines false script.now) }
+    ensures { IfOk result (λ r. Some r ≡ recounted file.now true names.now (option_map (λ o. o.now) origins.entry) most_lines false script.now) }
 {
-    let found = recount(alloc, file, names, script, origins, desk, MOST_LINES, false)?;
+    let found = recount(
+        alloc, file, true, names, script, origins, desk, MOST_LINES, false,
+    )?;
     match found {
         Some(recount) => Ok(recount),
         None => unreachable!(),

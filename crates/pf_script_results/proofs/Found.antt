@@ -30,16 +30,16 @@ at_opening origins script settings desk c is same places scenario replies = reco
   legal = subst (IsLegalFrom (opening_state settings)) (sym replies) (subst (λ s. IsLegalFrom (opening_state s) desk.history) same is.legal);
 }
 
-module _ (file : List ℕ) (names : List Named) (origins : Option (List Origin)) (most : ℕ) (whole : Bool) (script : List ℕ)
+module _ (file : List ℕ) (hints : Bool) (names : List Named) (origins : Option (List Origin)) (most : ℕ) (whole : Bool) (script : List ℕ)
     (opening : ScriptSettings) (lines : LinesTold) (is : told script ≡ record { opening = Some opening; rest = lines }) where
   -- Use: the walk gives what the records came to.
   pub found : (r : Result Recounted Stop) (start : Recounted) → start ≡ none_yet most
-      → IfOk r (λ x. x ≡ behind_lines file names whole (place_of origins script) (opening_state opening.settings) lines.lines start)
-      → IfOk r (λ x. Some x ≡ recounted file names origins most whole script)
+      → IfOk r (λ x. x ≡ behind_lines file hints names whole (place_of origins script) (opening_state opening.settings) lines.lines start)
+      → IfOk r (λ x. Some x ≡ recounted file hints names origins most whole script)
   unfolding recounted
   found (Ok x) start none h =
-      ap Some (h ∙ ap (behind_lines file names whole (place_of origins script) (opening_state opening.settings) lines.lines) none)
-      ∙ sym (ap (recounted_told file names whole (place_of origins script) most) is)
+      ap Some (h ∙ ap (behind_lines file hints names whole (place_of origins script) (opening_state opening.settings) lines.lines) none)
+      ∙ sym (ap (recounted_told file hints names whole (place_of origins script) most) is)
   found (Err e) start none h = tt
 
   -- Use: a desk of the script has its settings and its commands.

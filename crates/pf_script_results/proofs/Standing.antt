@@ -55,7 +55,7 @@ module _ (script : List ℕ) (bound number : ℕ) (left new : List ℕ) (behind 
       let all = record_lines script in
       let n : behind + (number - behind - 1) ≡ number - 1 = omega (arith, below, above) in
       is.place_is
-      ∙ ap (λ l. record { «record» = number; line = l })
+      ∙ ap (λ l. record { «record» = number; line = l; column = 1 })
       (ap (λ (xs : List ℕ). get_or xs (number - behind - 1) 0) is_left ∙ get_or-drop behind all (number - behind - 1) 0 ∙ ap (λ i. get_or all i 0) n)
 
   pub left_behind : new ≡ drop new_behind (record_lines script)
@@ -73,7 +73,7 @@ places_above origins script bound more (Lines left) h are = (are.0, are.1, omega
 -- Use: of a script that belongs to a plan.
 module _ (origins : Option (List Origin)) (script : List ℕ) (bound number : ℕ) (p : Places) (are : ArePlaces origins script bound p) where
   pub origin_stands : (told : Bor (List Origin)) (place : Place) → p ≡ Origins told
-      → place ≡ place_of_origin (slice_index_or told.now (number - 1) (record { number = number; line = 0 })) → place ≡ place_of origins script number
+      → place ≡ place_of_origin (slice_index_or told.now (number - 1) (record { number = number; line = 0; column = 1 })) → place ≡ place_of origins script number
   origin_stands told place is h =
       let some : origins ≡ Some told.now = subst (ArePlaces origins script bound) is are in
       h ∙ sym (ap (λ o. place_of o script number) some)

@@ -159,13 +159,13 @@ module _ (origins : Option (List Origin)) (script : List ℕ) (bound number : �
   }
   done_stands (Err e) is places made = tt
 
-  pub done_value : (file : List ℕ) (names : List Named) (whole : Bool) (r : Result (Unit {0}) Stop) (place : Place) (was now : Recounted) → came ≡ outcome.Done
+  pub done_value : (file : List ℕ) (hints : Bool) (names : List Named) (whole : Bool) (r : Result (Unit {0}) Stop) (place : Place) (was now : Recounted) → came ≡ outcome.Done
       → place ≡ place_of origins script number → OnOk r (now ≡ behind_making place change was)
-      → OnOk r (now ≡ behind_line file names whole st (place_of origins script number) (line.Edit change strict) was)
-  done_value file names whole (Ok done) place was now is stands made =
+      → OnOk r (now ≡ behind_line file hints names whole st (place_of origins script number) (line.Edit change strict) was)
+  done_value file hints names whole (Ok done) place was now is stands made =
       made ∙ ap (λ p. behind_making p change was) stands
-      ∙ ap (λ o. behind_change file names whole st.plan (place_of origins script number) change o was) (done_is is)
-  done_value file names whole (Err e) place was now is stands made = tt
+      ∙ ap (λ o. behind_change file hints names whole st.plan (place_of origins script number) change o was) (done_is is)
+  done_value file hints names whole (Err e) place was now is stands made = tt
 
   pub done_own : (r : Result (Unit {0}) Stop) → came ≡ outcome.Done → (edit_fault c.scenario change ≡ None → IsOwn r) → IsOwn r
   done_own r is own =
@@ -184,14 +184,14 @@ module _ (origins : Option (List Origin)) (script : List ℕ) (bound number : �
   }
   refused_stands (Err e) fault is places same = tt
 
-  pub refused_value : (file : List ℕ) (names : List Named) (whole : Bool) (r : Result (Unit {0}) Stop) (fault : Fault) (place : Place) (was now : Recounted)
+  pub refused_value : (file : List ℕ) (hints : Bool) (names : List Named) (whole : Bool) (r : Result (Unit {0}) Stop) (fault : Fault) (place : Place) (was now : Recounted)
       → came ≡ outcome.Refused fault → place ≡ place_of origins script number
-      → OnOk r (now ≡ behind_refusal file names whole c.scenario place change fault was)
-      → OnOk r (now ≡ behind_line file names whole st (place_of origins script number) (line.Edit change strict) was)
-  refused_value file names whole (Ok done) fault place was now is stands refused =
-      refused ∙ ap₂ (λ s p. behind_refusal file names whole s p change fault was) at.scenario stands
-      ∙ ap (λ o. behind_change file names whole st.plan (place_of origins script number) change o was) (refused_is fault is)
-  refused_value file names whole (Err e) fault place was now is stands refused = tt
+      → OnOk r (now ≡ behind_refusal file hints names whole c.scenario place change fault was)
+      → OnOk r (now ≡ behind_line file hints names whole st (place_of origins script number) (line.Edit change strict) was)
+  refused_value file hints names whole (Ok done) fault place was now is stands refused =
+      refused ∙ ap₂ (λ s p. behind_refusal file hints names whole s p change fault was) at.scenario stands
+      ∙ ap (λ o. behind_change file hints names whole st.plan (place_of origins script number) change o was) (refused_is fault is)
+  refused_value file hints names whole (Err e) fault place was now is stands refused = tt
 
 -- Use: the entries after that of a change.
 pub change_rest : {A E : Type 0} (r : Result A E) (change : Change) (strict : Bool) (came : Outcome) (old new : List Entry)
@@ -227,27 +227,27 @@ module _ (origins : Option (List Origin)) (script : List ℕ) (bound number coun
   steps_stand_if (Ok done) places same = steps_stand places same
   steps_stand_if (Err e) places same = tt
 
-  pub none_value : (file : List ℕ) (names : List Named) (whole : Bool) (was : Recounted) → refused ≡ 0
-      → was ≡ behind_line file names whole st (place_of origins script number) (line.Steps count) was
-  none_value file names whole was none =
+  pub none_value : (file : List ℕ) (hints : Bool) (names : List Named) (whole : Bool) (was : Recounted) → refused ≡ 0
+      → was ≡ behind_line file hints names whole st (place_of origins script number) (line.Steps count) was
+  none_value file hints names whole was none =
       ap (λ n. behind_steps_if file whole (place_of origins script number) st.plan.settings.horizon count n was) (sym none ∙ is)
 
-  pub some_value : (file : List ℕ) (names : List Named) (whole : Bool) (r : Result (Unit {0}) Stop) (place : Place) (was now : Recounted) → (refused ≡ 0 → ⊥)
+  pub some_value : (file : List ℕ) (hints : Bool) (names : List Named) (whole : Bool) (r : Result (Unit {0}) Stop) (place : Place) (was now : Recounted) → (refused ≡ 0 → ⊥)
       → place ≡ place_of origins script number → OnOk r (now ≡ behind_steps file whole place c.scenario.settings.horizon count refused was)
-      → OnOk r (now ≡ behind_line file names whole st (place_of origins script number) (line.Steps count) was)
-  some_value file names whole (Ok done) place was now some stands told =
+      → OnOk r (now ≡ behind_line file hints names whole st (place_of origins script number) (line.Steps count) was)
+  some_value file hints names whole (Ok done) place was now some stands told =
       let not_none : (refused == 0) ≡ false = search (rules, tests) in
       told ∙ ap₂ (λ s p. behind_steps file whole p s count refused was) (ap (λ (s : Plan). s.settings.horizon) at.scenario) stands
       ∙ some_steps (refused == 0) was (behind_steps file whole (place_of origins script number) st.plan.settings.horizon count refused was) not_none
       ∙ ap (λ n. behind_steps_if file whole (place_of origins script number) st.plan.settings.horizon count n was) is
-  some_value file names whole (Err e) place was now some stands told = tt
+  some_value file hints names whole (Err e) place was now some stands told = tt
 
 -- Use: of the records left one was gone over.
-pub next_stands : (file : List ℕ) (names : List Named) (keeps : Bool) (origins : Option (List Origin)) (script : List ℕ) (told : LineTold) (c d : Course) (was now : Recounted)
+pub next_stands : (file : List ℕ) (hints : Bool) (names : List Named) (keeps : Bool) (origins : Option (List Origin)) (script : List ℕ) (told : LineTold) (c d : Course) (was now : Recounted)
     (left behind : List LineTold) (whole : Recounted) (had : Type 0) (done : Unit {0}) → left ≡ told ∷ behind
-    → Stands file names keeps origins script c was left whole had → Walks file names keeps told.number told.asks (Ok done) c was d now
-    → Stands file names keeps origins script d now behind whole had
-next_stands file names keeps origins script told c d was now left behind whole had done is s w =
+    → Stands file hints names keeps origins script c was left whole had → Walks file hints names keeps told.number told.asks (Ok done) c was d now
+    → Stands file hints names keeps origins script d now behind whole had
+next_stands file hints names keeps origins script told c d was now left behind whole had done is s w =
     let rises = subst (RiseAbove s.bound) is s.rises in
     record {
       bound = told.number;
@@ -255,29 +255,29 @@ next_stands file names keeps origins script told c d was now left behind whole h
       at = w.course origins script s.bound s.state s.at rises.0;
       rises = rises.1;
       comes =
-          ap (behind_lines file names keeps (place_of origins script) (state_behind_line s.state told.asks) behind) (w.value origins script s.bound s.state s.at rises.0)
-          ∙ ap (λ ls. behind_lines file names keeps (place_of origins script) s.state ls was) (sym is) ∙ s.comes;
+          ap (behind_lines file hints names keeps (place_of origins script) (state_behind_line s.state told.asks) behind) (w.value origins script s.bound s.state s.at rises.0)
+          ∙ ap (λ ls. behind_lines file hints names keeps (place_of origins script) s.state ls was) (sym is) ∙ s.comes;
       has = λ h. w.rest (commands_in behind) (s.has h ∙ ap commands_in is);
     }
 
 -- Use: it is the history of the script's, so far.
-pub own_stands : (file : List ℕ) (names : List Named) (keeps : Bool) (origins : Option (List Origin)) (script : List ℕ) (told : LineTold) (c d : Course) (was now : Recounted)
+pub own_stands : (file : List ℕ) (hints : Bool) (names : List Named) (keeps : Bool) (origins : Option (List Origin)) (script : List ℕ) (told : LineTold) (c d : Course) (was now : Recounted)
     (left behind : List LineTold) (whole : Recounted) (had : Type 0) (r : Result (Unit {0}) Stop) → left ≡ told ∷ behind
-    → Stands file names keeps origins script c was left whole had → Walks file names keeps told.number told.asks r c was d now → had → IsOwn r
-own_stands file names keeps origins script told c d was now left behind whole had r is s w h =
+    → Stands file hints names keeps origins script c was left whole had → Walks file hints names keeps told.number told.asks r c was d now → had → IsOwn r
+own_stands file hints names keeps origins script told c d was now left behind whole had r is s w h =
     w.own origins script s.bound s.state (commands_in behind) s.at (s.has h ∙ ap commands_in is)
 
 -- Use: none is left.
-pub last_stands : (file : List ℕ) (names : List Named) (keeps : Bool) (origins : Option (List Origin)) (script : List ℕ) (c : Course) (was : Recounted)
-    (left : List LineTold) (whole : Recounted) (had : Type 0) → left ≡ [] → Stands file names keeps origins script c was left whole had → was ≡ whole
-last_stands file names keeps origins script c was left whole had is s =
-    ap (λ ls. behind_lines file names keeps (place_of origins script) s.state ls was) (sym is) ∙ s.comes
+pub last_stands : (file : List ℕ) (hints : Bool) (names : List Named) (keeps : Bool) (origins : Option (List Origin)) (script : List ℕ) (c : Course) (was : Recounted)
+    (left : List LineTold) (whole : Recounted) (had : Type 0) → left ≡ [] → Stands file hints names keeps origins script c was left whole had → was ≡ whole
+last_stands file hints names keeps origins script c was left whole had is s =
+    ap (λ ls. behind_lines file hints names keeps (place_of origins script) s.state ls was) (sym is) ∙ s.comes
 
 -- Use: none was gone over yet.
-pub first_stands : (file : List ℕ) (names : List Named) (keeps : Bool) (origins : Option (List Origin)) (script : List ℕ) (bound : ℕ) (st : State) (c : Course)
+pub first_stands : (file : List ℕ) (hints : Bool) (names : List Named) (keeps : Bool) (origins : Option (List Origin)) (script : List ℕ) (bound : ℕ) (st : State) (c : Course)
     (was : Recounted) (lines : List LineTold) → IsAt origins script bound st c → RiseAbove bound lines
-    → Stands file names keeps origins script c was lines (behind_lines file names keeps (place_of origins script) st lines was) (asked_in c.replies ≡ commands_in lines)
-first_stands file names keeps origins script bound st c was lines at rises = record {
+    → Stands file hints names keeps origins script c was lines (behind_lines file hints names keeps (place_of origins script) st lines was) (asked_in c.replies ≡ commands_in lines)
+first_stands file hints names keeps origins script bound st c was lines at rises = record {
   bound = bound;
   state = st;
   at = at;

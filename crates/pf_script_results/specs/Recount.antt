@@ -62,16 +62,16 @@ refused_steps place refused = record { place = place; fault = AtHorizon; event =
 abbrev pub behind_making : Place → Change → Recounted → Recounted
 behind_making place change c = record c { made = made_after c.made place change }
 
-abbrev pub behind_refusal : List ℕ → List Named → Bool → Plan → Place → Change → Fault → Recounted → Recounted
-behind_refusal file names whole s place change fault c = record c {
-  refusals = kept_after c.refusals (change_line file place (name_of_change names change) s change fault) 1;
+abbrev pub behind_refusal : List ℕ → Bool → List Named → Bool → Plan → Place → Change → Fault → Recounted → Recounted
+behind_refusal file hints names whole s place change fault c = record c {
+  refusals = kept_after c.refusals (change_line file hints place (name_of_change names change) s change fault) 1;
   refused = with_record whole c.refused (refused_change s place change fault);
 }
 
 -- after a record with this change, which came to this in a scenario
-abbrev pub behind_change : List ℕ → List Named → Bool → Plan → Place → Change → Outcome → Recounted → Recounted
-behind_change file names whole s place change Done c = behind_making place change c
-behind_change file names whole s place change (Refused fault) c = behind_refusal file names whole s place change fault c
+abbrev pub behind_change : List ℕ → Bool → List Named → Bool → Plan → Place → Change → Outcome → Recounted → Recounted
+behind_change file hints names whole s place change Done c = behind_making place change c
+behind_change file hints names whole s place change (Refused fault) c = behind_refusal file hints names whole s place change fault c
 
 -- after a record with so many steps, of which so many were refused at the horizon
 abbrev pub behind_steps : List ℕ → Bool → Place → ℕ → ℕ → ℕ → Recounted → Recounted
@@ -86,26 +86,26 @@ behind_steps_if file whole place horizon steps refused c =
     if refused == 0 then c else behind_steps file whole place horizon steps refused c
 
 -- after a record that asks for this in a state
-abbrev pub behind_line : List ℕ → List Named → Bool → State → Place → Line → Recounted → Recounted
-behind_line file names whole st place (Edit change strict) c =
-    behind_change file names whole st.plan place change (outcome_of (reply_to st (command.Edit change strict))) c
-behind_line file names whole st place (Steps count) c =
+abbrev pub behind_line : List ℕ → Bool → List Named → Bool → State → Place → Line → Recounted → Recounted
+behind_line file hints names whole st place (Edit change strict) c =
+    behind_change file hints names whole st.plan place change (outcome_of (reply_to st (command.Edit change strict))) c
+behind_line file hints names whole st place (Steps count) c =
     behind_steps_if file whole place st.plan.settings.horizon count (refused_in st (replicate count command.Step)) c
 
 -- after these records, whose places are those of their numbers, from a state on
-abbrev pub behind_lines : List ℕ → List Named → Bool → (ℕ → Place) → State → List LineTold → Recounted → Recounted
-behind_lines file names whole place_at st [] c = c
-behind_lines file names whole place_at st (line ∷ lines) c =
-    behind_lines file names whole place_at (state_behind_line st line.asks) lines
-    (behind_line file names whole st (place_at line.number) line.asks c)
+abbrev pub behind_lines : List ℕ → Bool → List Named → Bool → (ℕ → Place) → State → List LineTold → Recounted → Recounted
+behind_lines file hints names whole place_at st [] c = c
+behind_lines file hints names whole place_at st (line ∷ lines) c =
+    behind_lines file hints names whole place_at (state_behind_line st line.asks) lines
+    (behind_line file hints names whole st (place_at line.number) line.asks c)
 
 -- what the records of a script came to that tells this; nothing where it has no settings
-abbrev pub recounted_told : List ℕ → List Named → Bool → (ℕ → Place) → ℕ → Told → Option Recounted
-recounted_told file names whole place_at most t =
-    option_map (λ s. behind_lines file names whole place_at (opening_state s.settings) t.rest.lines (none_yet most)) t.opening
+abbrev pub recounted_told : List ℕ → Bool → List Named → Bool → (ℕ → Place) → ℕ → Told → Option Recounted
+recounted_told file hints names whole place_at most t =
+    option_map (λ s. behind_lines file hints names whole place_at (opening_state s.settings) t.rest.lines (none_yet most)) t.opening
 
--- the same of a script of these bytes, up to its first bad record: with the lines of the first `most` refused records of this file,
--- and with all refused records where they are kept; origins where it belongs to a plan
-unfoldable pub recounted : List ℕ → List Named → Option (List Origin) → ℕ → Bool → List ℕ → Option Recounted
-recounted file names origins most whole script =
-    recounted_told file names whole (place_of origins script) most (told script)
+-- the same of a script of these bytes, up to its first bad record: with the lines of the first `most` refused records of this file, with
+-- hints, where they are asked for, and with all refused records where they are kept; origins where it belongs to a plan
+unfoldable pub recounted : List ℕ → Bool → List Named → Option (List Origin) → ℕ → Bool → List ℕ → Option Recounted
+recounted file hints names origins most whole script =
+    recounted_told file hints names whole (place_of origins script) most (told script)

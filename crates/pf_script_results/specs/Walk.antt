@@ -35,23 +35,23 @@ TakesLine (Some told) old new = old ≡ told ∷ new
 -- it went over a record of this number, which asks for this, where it is not stopped: it then stands after it, and what the
 -- records came to is what they come to with this one; and it is stopped by running out of memory alone where the history has the
 -- commands of the record, and then has those after it
-pub record Walks (file : List ℕ) (names : List Named) (whole : Bool) (number : ℕ) (asks : Line) (r : Result (Unit {0}) Stop)
+pub record Walks (file : List ℕ) (hints : Bool) (names : List Named) (whole : Bool) (number : ℕ) (asks : Line) (r : Result (Unit {0}) Stop)
     (before : Course) (was : Recounted) (behind : Course) (now : Recounted) : Type 0 where
   pub course : (origins : Option (List Origin)) (script : List ℕ) (bound : ℕ) (st : State) → IsAt origins script bound st before → bound < number →
       OnOk r (IsAt origins script number (state_behind_line st asks) behind)
   pub value : (origins : Option (List Origin)) (script : List ℕ) (bound : ℕ) (st : State) → IsAt origins script bound st before → bound < number →
-      OnOk r (now ≡ behind_line file names whole st (place_of origins script number) asks was)
+      OnOk r (now ≡ behind_line file hints names whole st (place_of origins script number) asks was)
   pub own : (origins : Option (List Origin)) (script : List ℕ) (bound : ℕ) (st : State) (rest : List Command) → IsAt origins script bound st before →
       asked_in before.replies ≡ commands_of asks ++ rest → IsOwn r
   pub rest : (rest : List Command) → asked_in before.replies ≡ commands_of asks ++ rest → OnOk r (asked_in behind.replies ≡ rest)
 
 -- it stands somewhere after records; with those that are left they come to `whole`, and the history has the commands of those
 -- left, where it had those of all
-pub record Stands (file : List ℕ) (names : List Named) (keeps : Bool) (origins : Option (List Origin)) (script : List ℕ) (c : Course)
+pub record Stands (file : List ℕ) (hints : Bool) (names : List Named) (keeps : Bool) (origins : Option (List Origin)) (script : List ℕ) (c : Course)
     (recounted : Recounted) (left : List LineTold) (whole : Recounted) (had : Type 0) : Type 0 where
   pub bound : ℕ
   pub state : State
   pub at : IsAt origins script bound state c
   pub rises : RiseAbove bound left
-  pub comes : behind_lines file names keeps (place_of origins script) state left recounted ≡ whole
+  pub comes : behind_lines file hints names keeps (place_of origins script) state left recounted ≡ whole
   pub has : had → asked_in c.replies ≡ commands_in left

@@ -60,14 +60,19 @@ impl<'a> Places<'a> {
 /// The record that the one of this number comes from.
 #[tactic(auto, using(crate::proofs::Standing::given_origin))]
 fn place_among(origins: &[Origin], number: u64) -> Place
-    ensures { result ≡ place_of_origin (slice_index_or origins.now (number - 1) (record { number = number; line = 0 })) }
+    ensures { result ≡ place_of_origin (slice_index_or origins.now (number - 1) (record { number = number; line = 0; column = 1 })) }
 {
     let place = number.saturating_sub(1) as usize;
-    let unknown = Origin { number, line: 0 };
+    let unknown = Origin {
+        number,
+        line: 0,
+        column: 1,
+    };
     let origin = origins.get(place).copied().unwrap_or(unknown);
     Place {
         record: origin.number,
         line: origin.line,
+        column: origin.column,
     }
 }
 
@@ -84,6 +89,7 @@ impl LinesLeft<'_> {
             return Place {
                 record: number,
                 line: 0,
+                column: 1,
             };
         }
         let line = line_of(&mut self.lines, self.behind, number);
@@ -91,6 +97,7 @@ impl LinesLeft<'_> {
         Place {
             record: number,
             line,
+            column: 1,
         }
     }
 }

@@ -64,12 +64,18 @@ impl Recount {
         scenario: &Scenario,
         refused: RefusedChange,
     ) -> Result<(), AllocError>
-        ensures { OnOk result (self.new ≡ behind_refusal telling.now.file.now telling.now.names.now telling.now.whole scenario.now
+        ensures { OnOk result (self.new ≡ behind_refusal telling.now.file.now telling.now.hints telling.now.names.now telling.now.whole scenario.now
             refused.place refused.change refused.fault self.old) }
     {
         let name = name_of_change(telling.names, refused.change);
-        self.refusals
-            .note_change(telling.alloc, telling.file, name, scenario, refused)?;
+        self.refusals.note_change(
+            telling.alloc,
+            telling.file,
+            telling.hints,
+            name,
+            scenario,
+            refused,
+        )?;
         if telling.whole {
             self.refused.push(record_of(scenario, refused))?;
         }

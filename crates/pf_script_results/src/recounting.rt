@@ -73,7 +73,7 @@ fn note_refused(
     recount: &mut Recount,
     refused: RefusedChange,
 ) -> Result<(), Stop>
-    ensures recount { OnOk result (recount.new ≡ behind_refusal telling.now.file.now telling.now.names.now telling.now.whole scenario.now
+    ensures recount { OnOk result (recount.new ≡ behind_refusal telling.now.file.now telling.now.hints telling.now.names.now telling.now.whole scenario.now
         refused.place refused.change refused.fault recount.old) }
     ensures own { IsOwn result }
 {
@@ -108,7 +108,7 @@ fn take_change(
     change: Change,
     strict: bool,
 ) -> Result<(), Stop>
-    ensures { Walks telling.now.file.now telling.now.names.now telling.now.whole number (line.Edit change strict) result
+    ensures { Walks telling.now.file.now telling.now.hints telling.now.names.now telling.now.whole number (line.Edit change strict) result
         course.old recount.old course.new recount.new }
 {
     let outcome = course.replies.answer(Command::Edit { change, strict })?;
@@ -134,7 +134,7 @@ fn take_steps(
     number: u64,
     count: u64,
 ) -> Result<(), Stop>
-    ensures { Walks telling.now.file.now telling.now.names.now telling.now.whole number (line.Steps count) result
+    ensures { Walks telling.now.file.now telling.now.hints telling.now.names.now telling.now.whole number (line.Steps count) result
         course.old recount.old course.new recount.new }
 {
     let refused = course.replies.steps(count)?;
@@ -152,7 +152,7 @@ fn take_line(
     recount: &mut Recount,
     told: LineTold,
 ) -> Result<(), Stop>
-    ensures { Walks telling.now.file.now telling.now.names.now telling.now.whole told.number told.asks result
+    ensures { Walks telling.now.file.now telling.now.hints telling.now.names.now telling.now.whole told.number told.asks result
         course.old recount.old course.new recount.new }
 {
     match told.asks {
@@ -185,7 +185,7 @@ fn take_lines(
     mut row: ByteRecord,
 ) -> Result<Recount, Stop>
     ensures value { (origins : Option (List Origin)) (script : List ℕ) (bound : ℕ) (st : State) → IsAt origins script bound st course.entry →
-        RiseAbove bound lines.entry.lines → IfOk result (λ r. r ≡ behind_lines telling.now.file.now telling.now.names.now telling.now.whole
+        RiseAbove bound lines.entry.lines → IfOk result (λ r. r ≡ behind_lines telling.now.file.now telling.now.hints telling.now.names.now telling.now.whole
         (place_of origins script) st lines.entry.lines recount) }
     ensures own { (origins : Option (List Origin)) (script : List ℕ) (bound : ℕ) (st : State) → IsAt origins script bound st course.entry →
         RiseAbove bound lines.entry.lines → asked_in course.entry.replies ≡ commands_in lines.entry.lines → IsOwn result }
@@ -226,7 +226,7 @@ fn recount_script<'a>(
     most: u64,
 ) -> Result<Recount, Stop>
     ensures value { IfOk result (λ r. Some r ≡
-        recounted telling.now.file.now telling.now.names.now (option_map (λ o. o.now) origins.entry) most telling.now.whole script.now) }
+        recounted telling.now.file.now telling.now.hints telling.now.names.now (option_map (λ o. o.now) origins.entry) most telling.now.whole script.now) }
     ensures own { IsOf (told script.now) desk.now → IsOwn result }
 {
     let mut row = ByteRecord::new(telling.alloc);
@@ -248,9 +248,9 @@ fn recount_script<'a>(
 }
 
 /// What the records of a script came to that was carried out on this desk, up to its first bad record: the record that made each
-/// event as it stands, the lines of the first `most` refused records of this file, and, where `whole` is asked for, each refused
-/// record. The script is the text of version 1 or 2 that was carried out; where it belongs to a plan, `origins` are
-/// the records there that its own come from, and records are told by them. `None` where the desk has other settings than the
+/// event as it stands, the lines of the first `most` refused records of this file, with hints, where they are asked for, and, where
+/// `whole` is asked for, each refused record. The script is the text of version 1 or 2 that was carried out; where it belongs to a
+/// plan, `origins` are the records there that its own come from, and records are told by them. `None` where the desk has other settings than the
 /// script, or answered other commands.
 ///
 /// # Errors
@@ -259,6 +259,7 @@ fn recount_script<'a>(
 pub fn recount(
     alloc: Global,
     file: &[u8],
+    hints: bool,
     names: &Names,
     script: &[u8],
     origins: Option<&[Origin]>,
@@ -267,12 +268,13 @@ pub fn recount(
     whole: bool,
 ) -> Result<Option<Recount>, AllocError>
     ensures value { IfOk result (λ found. IfSome found (λ r. Some r ≡
-        recounted file.now names.now (option_map (λ o. o.now) origins.entry) most whole script.now)) }
+        recounted file.now hints names.now (option_map (λ o. o.now) origins.entry) most whole script.now)) }
     ensures some { IsOf (told script.now) desk.now → IfOk result IsSome }
 {
     let telling = Telling {
         alloc,
         file,
+        hints,
         names,
         whole,
     };

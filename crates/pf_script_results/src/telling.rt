@@ -8,6 +8,8 @@ pub(crate) struct Telling<'a> {
     pub(crate) alloc: Global,
     /// The name of the file.
     pub(crate) file: &'a [u8],
+    /// Whether hints are told.
+    pub(crate) hints: bool,
     /// The names of the tasks.
     pub(crate) names: &'a Names,
     /// Whether all refused records are kept.

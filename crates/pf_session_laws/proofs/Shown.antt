@@ -6,7 +6,7 @@ use Rattle.std.proofs.lemmas.Int.{clamps}
 use Rattle.pf_commands.specs.Answers.{Answers as Means}
 use Rattle.pf_commands.specs.Meaning.{Meaning, ended_meaning, report_meaning, script_meaning, text_and_then}
 use Rattle.pf_commands.specs.Refusals.{refusals_for, refused_in}
-use Rattle.pf_plain_script.specs.Plain.{Course, Plain, course_behind, plain, plain_behind, plain_from, plain_of, start, titles_of, with_heading}
+use Rattle.pf_plain_script.specs.Plain.{Course, Plain, course_behind, first_column, plain, plain_behind, plain_from, plain_of, start, titles_of, with_heading}
 use Rattle.pf_plain_script.specs.declared.origin.Origin.{Origin}
 use Rattle.pf_replies.specs.Course.{ScriptCourse, course_behind as after_commands, fault_number, outcome_of, outcome_told, replies_told, text_if_replies}
 use Rattle.pf_replies.proofs.Courses.{course_behind-append}
@@ -55,33 +55,33 @@ record IsPlanOf (c : Course) (p : Plain) (said saids : List Said) : Type 0 where
   pub good : p.bad ≡ None
   pub saids_are : said ≡ saids
 
-plan_runs : (found : List Row) (rs : List (List (List ℕ))) (c : Course) (n end : ℕ) (d : Course) → map (λ row. row.fields) found ≡ rs → (runs : Runs c rs d)
-    → d.progress.opened ≡ true → IsPlanOf d (plain_from c n end found) (saids_from c found) (saids_in c rs d runs)
-plan_runs [] [] c n end d is runs came =
+plan_runs : (column : ℕ → ℕ) (found : List Row) (rs : List (List (List ℕ))) (c : Course) (n end : ℕ) (d : Course) → map (λ row. row.fields) found ≡ rs → (runs : Runs c rs d)
+    → d.progress.opened ≡ true → IsPlanOf d (plain_from column c n end found) (saids_from c found) (saids_in c rs d runs)
+plan_runs column [] [] c n end d is runs came =
     let opened : c.progress.opened ≡ true = sym (ap (λ (q : Course). q.progress.opened) runs) ∙ came in
     record { titles = rw opened (ap (λ (q : Course). titles_of q.progress) (sym runs)); good = rw opened refl; saids_are = refl }
-plan_runs [] (r ∷ rs) c n end d is runs came = cc
-plan_runs (row ∷ found) [] c n end d is runs came = cc
-plan_runs (row ∷ found) (r ∷ rs) c n end d is runs came =
+plan_runs column [] (r ∷ rs) c n end d is runs came = cc
+plan_runs column (row ∷ found) [] c n end d is runs came = cc
+plan_runs column (row ∷ found) (r ∷ rs) c n end d is runs came =
     let same : row.fields ≡ r = cc in
     let rest : map (λ row. row.fields) found ≡ rs = cc in
     let e : said_at c.progress row.fields ≡ Ok runs.0 = ap (λ (f : List (List ℕ)). said_at c.progress f) same ∙ runs.1 in
-    let more = plan_runs found rs (course_behind c runs.0) (n + 1) end d rest runs.2 came in
+    let more = plan_runs column found rs (course_behind c runs.0) (n + 1) end d rest runs.2 came in
     record { titles = rw e more.titles; good = rw e more.good; saids_are = rw e (ap (λ (t : List Said). runs.0 ∷ t) more.saids_are) }
 
 -- a script of rows under its heading
-plan_found : (end : ℕ) (found : List Row) (rs : List (List (List ℕ))) (d : Course) → map (λ row. row.fields) found ≡ heading_fields ∷ rs → (runs : Runs start rs d)
-    → d.progress.opened ≡ true → (p : Plain) × (plain_of end found ≡ Some p) × IsPlanOf d p (saids_of found) (saids_in start rs d runs)
+plan_found : (column : ℕ → ℕ) (end : ℕ) (found : List Row) (rs : List (List (List ℕ))) (d : Course) → map (λ row. row.fields) found ≡ heading_fields ∷ rs → (runs : Runs start rs d)
+    → d.progress.opened ≡ true → (p : Plain) × (plain_of column end found ≡ Some p) × IsPlanOf d p (saids_of found) (saids_in start rs d runs)
 unfolding is_plan_heading heading_fault is_word
-plan_found end [] rs d is runs came = cc
-plan_found end (row ∷ found) rs d is runs came =
+plan_found column end [] rs d is runs came = cc
+plan_found column end (row ∷ found) rs d is runs came =
     let same : row.fields ≡ heading_fields = cc in
     let rest : map (λ row. row.fields) found ≡ rs = cc in
-    let is_of = plan_runs found rs start 2 end d rest runs came in
-    let p = with_heading row.line (plain_from start 2 end found) in (
+    let is_of = plan_runs column found rs start 2 end d rest runs came in
+    let p = with_heading column row.line (plain_from column start 2 end found) in (
       p,
       subst
-          (λ (f : List (List ℕ)). (if is_plan_heading f then Some (with_heading row.line (plain_behind (heading_fault f) row.line end found)) else None) ≡ Some p)
+          (λ (f : List (List ℕ)). (if is_plan_heading f then Some (with_heading column row.line (plain_behind column (heading_fault f) row.line end found)) else None) ≡ Some p)
           (sym same) refl,
       record {
         titles = is_of.titles;
@@ -96,7 +96,7 @@ script_plan s is came =
     subst
     (λ (t : List ℕ). (p : Plain) × (plain t ≡ Some p) × IsPlanOf s.course p (saids_of (rows t).rows) (saids_in start is.rows s.course is.runs))
     (sym is.script_is)
-    (let text = lines_text false (heading_fields ∷ is.rows) in plan_found (rows text).end (rows text).rows is.rows s.course (script_rows s is) is.runs came)
+    (let text = lines_text false (heading_fields ∷ is.rows) in plan_found (first_column text) (rows text).end (rows text).rows is.rows s.course (script_rows s is) is.runs came)
 
 -- the settings are told first, and then the others
 abbrev AreAfter : List Said → Type 0

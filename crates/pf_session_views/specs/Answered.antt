@@ -1,5 +1,5 @@
 -- What the program answers to a script, of what is wanted.
-use Rattle.std.specs.Prelude.{ℕ, List, [], codes, Option, Some, IfOk, IfErr, Result, Ok, Err}
+use Rattle.std.specs.Prelude.{ℕ, List, [], codes, true, Option, Some, IfOk, IfErr, Result, Ok, Err}
 use Rattle.pf_script_run.specs.Carried.{Stops}
 use Rattle.pf_commands.specs.Answers.{Answers as Means}
 use Rattle.pf_commands.specs.Meaning.{Meaning, script_meaning}
@@ -24,7 +24,7 @@ Runs m (Err fault) = (text : List ℕ) × Means {A = Ending} m (Err fault) (Some
 
 -- whether a script fits, as text, with `-` for the name of its file
 pub record Fits (titles : Titles) (origins : Option (List Origin)) (script : List ℕ) (made : Result Answer Fault) : Type 0 where
-  pub answer : IfOk made (FitMade fit.Text (codes "-") origins titles script)
+  pub answer : IfOk made (FitMade fit.Text (codes "-") true origins titles script)
   pub stopped : IfErr made (Stops (told script).rest.fault)
 
 -- the answer to a script of version 1 or 2 with these titles; origins where it belongs to a plan

@@ -38,7 +38,7 @@ pub(crate) fn answer(
     match wanted {
         Wanted::Report(format) => report(alloc, script, titles, origins, *format),
         Wanted::Why(question) => why(alloc, script, &titles.names, question),
-        Wanted::Fit => fit(alloc, FitFormat::Text, b"-", script, origins, titles),
+        Wanted::Fit => fit(alloc, FitFormat::Text, b"-", true, script, origins, titles),
     }
 }
 

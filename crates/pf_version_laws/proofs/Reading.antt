@@ -14,7 +14,7 @@ use Rattle.pf_script.specs.declared.plan.fault.RecordFault.{RecordFault}
 use Rattle.pf_script.specs.declared.plan.said.Said.{Said}
 use Rattle.pf_script.specs.declared.plan.said.Said.TheVariants.{Settings, Slot, Name, Asks}
 use Rattle.pf_plain_script.specs.declared.origin.Origin.{Origin}
-use Rattle.pf_plain_script.specs.Plain.{Course, Plain, course_behind, ended, plain_behind, plain_from, plain_next, start, with_said}
+use Rattle.pf_plain_script.specs.Plain.{Course, Plain, course_behind, ended, origin_at, plain_behind, plain_from, plain_next, start, with_said}
 use Rattle.pf_plain_script.specs.Written.{heading_fields, line_fields, settings_fields}
 use Rattle.pf_script.specs.declared.plan.state.Progress.{Progress}
 use Rattle.pf_version_laws.proofs.Writing.{line_kept}
@@ -48,20 +48,20 @@ said_kept origin (Slot length) p kept = kept
 said_kept origin (Name task name) p kept = kept
 said_kept origin (Asks line label) p kept = rw (line_kept line) (ap (λ (t : List (List (List ℕ))). line_fields line ∷ t) kept)
 
-records_kept : (rows : List Row) (c : Course) (n end : ℕ) → map read_back (plain_from c n end rows).records ≡ (plain_from c n end rows).records
-records_kept [] c n end = ended_kept c.progress (record { number = n; line = end }) (end_fault c.progress)
-records_kept (row ∷ rows) c n end = by (said_at c.progress row.fields) (λ next. records_kept rows next (n + 1) end)
+records_kept : (column : ℕ → ℕ) (rows : List Row) (c : Course) (n end : ℕ) → map read_back (plain_from column c n end rows).records ≡ (plain_from column c n end rows).records
+records_kept column [] c n end = ended_kept c.progress (origin_at column n end) (end_fault c.progress)
+records_kept column (row ∷ rows) c n end = by (said_at c.progress row.fields) (λ next. records_kept column rows next (n + 1) end)
   where
-    by : (r : Result Said RecordFault) → ((next : Course) → map read_back (plain_from next (n + 1) end rows).records ≡ (plain_from next (n + 1) end rows).records)
-        → map read_back (plain_next (λ next. plain_from next (n + 1) end rows) c (record { number = n; line = row.line }) r).records
-        ≡ (plain_next (λ next. plain_from next (n + 1) end rows) c (record { number = n; line = row.line }) r).records
-    by (Ok said) more = said_kept (record { number = n; line = row.line }) said (plain_from (course_behind c said) (n + 1) end rows) (more (course_behind c said))
-    by (Err fault) more = ended_kept c.progress (record { number = n; line = row.line }) (Some fault)
+    by : (r : Result Said RecordFault) → ((next : Course) → map read_back (plain_from column next (n + 1) end rows).records ≡ (plain_from column next (n + 1) end rows).records)
+        → map read_back (plain_next (λ next. plain_from column next (n + 1) end rows) c (origin_at column n row.line) r).records
+        ≡ (plain_next (λ next. plain_from column next (n + 1) end rows) c (origin_at column n row.line) r).records
+    by (Ok said) more = said_kept (origin_at column n row.line) said (plain_from column (course_behind c said) (n + 1) end rows) (more (course_behind c said))
+    by (Err fault) more = ended_kept c.progress (origin_at column n row.line) (Some fault)
 
-records_behind : (fault : Option RecordFault) (line end : ℕ) (rows : List Row)
-    → map read_back (plain_behind fault line end rows).records ≡ (plain_behind fault line end rows).records
-records_behind None line end rows = records_kept rows start 2 end
-records_behind (Some fault) line end rows = ended_kept start.progress (record { number = 1; line = line }) (Some fault)
+records_behind : (column : ℕ → ℕ) (fault : Option RecordFault) (line end : ℕ) (rows : List Row)
+    → map read_back (plain_behind column fault line end rows).records ≡ (plain_behind column fault line end rows).records
+records_behind column None line end rows = records_kept column rows start 2 end
+records_behind column (Some fault) line end rows = ended_kept start.progress (origin_at column 1 line) (Some fault)
 
 -- no such text begins with a byte order mark
 unmarked : (rows : List (List (List ℕ))) → strip_bom (table_text (heading_fields ∷ rows)) ≡ table_text (heading_fields ∷ rows)
@@ -69,10 +69,10 @@ unfolding strip_bom escaped fields_text is_blank
 unmarked rows = refl
 
 -- Use: after the heading.
-pub read_again : (fault : Option RecordFault) (line end : ℕ) (rows : List Row)
-    → script_records (table_text (heading_fields ∷ (plain_behind fault line end rows).records)) ≡ heading_fields ∷ (plain_behind fault line end rows).records
-read_again fault line end rows =
-    let all = heading_fields ∷ (plain_behind fault line end rows).records in
-    ap (records default_config) (unmarked (plain_behind fault line end rows).records)
+pub read_again : (column : ℕ → ℕ) (fault : Option RecordFault) (line end : ℕ) (rows : List Row)
+    → script_records (table_text (heading_fields ∷ (plain_behind column fault line end rows).records)) ≡ heading_fields ∷ (plain_behind column fault line end rows).records
+read_again column fault line end rows =
+    let all = heading_fields ∷ (plain_behind column fault line end rows).records in
+    ap (records default_config) (unmarked (plain_behind column fault line end rows).records)
     ∙ table_again (length (table_text all) + 1) all (omega arith)
-    ∙ ap (λ (t : List (List (List ℕ))). heading_fields ∷ t) (records_behind fault line end rows)
+    ∙ ap (λ (t : List (List (List ℕ))). heading_fields ∷ t) (records_behind column fault line end rows)

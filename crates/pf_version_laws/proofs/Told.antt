@@ -15,7 +15,7 @@ use Rattle.pf_script.specs.declared.plan.said.Said.{Said}
 use Rattle.pf_script.specs.declared.plan.said.Said.TheVariants.{Settings, Slot, Name, Asks}
 use Rattle.pf_script.specs.declared.plan.state.Progress.{Progress}
 use Rattle.pf_plain_script.specs.declared.origin.Origin.{Origin}
-use Rattle.pf_plain_script.specs.Plain.{Course, Plain, course_behind, ended, plain_behind, plain_from, plain_next, plain_of, start, with_heading}
+use Rattle.pf_plain_script.specs.Plain.{Course, Plain, course_behind, ended, first_column, origin_at, plain_behind, plain_from, plain_next, plain_of, start, with_heading}
 use Rattle.pf_version_laws.specs.Titles.{AreGivable, AreTold, IsGivable, IsLength, TitlesAreTold}
 use Rattle.pf_version_laws.proofs.Saying.{CanBeWritten, said_written}
 use Rattle.pf_version_laws.proofs.Whole.{IsGood, good_behind, good_start}
@@ -94,37 +94,37 @@ ended_told : (p : Progress) (origin : Origin) (fault : Option RecordFault) → I
 ended_told p origin None t = record { is_plan = refl; names = t.names; slot = t.slot }
 ended_told p origin (Some fault) t = record { is_plan = refl; names = t.names; slot = t.slot }
 
-told_from : (rows : List Row) (c : Course) (n end : ℕ) → IsGood c → IsTitled c.progress → AreTold (plain_from c n end rows).titles
-told_from [] c n end good t = ended_told c.progress (record { number = n; line = end }) (end_fault c.progress) t
-told_from (row ∷ rows) c n end good t =
+told_from : (column : ℕ → ℕ) (rows : List Row) (c : Course) (n end : ℕ) → IsGood c → IsTitled c.progress → AreTold (plain_from column c n end rows).titles
+told_from column [] c n end good t = ended_told c.progress (origin_at column n end) (end_fault c.progress) t
+told_from column (row ∷ rows) c n end good t =
     by (said_at c.progress row.fields) (λ said is. said_written c.progress row.fields said good.progress is)
-    (λ next is titled. told_from rows next (n + 1) end is titled)
+    (λ next is titled. told_from column rows next (n + 1) end is titled)
   where
     by : (r : Result Said RecordFault) → ((said : Said) → r ≡ Ok said → CanBeWritten c.progress.opened c.progress.names said)
-        → ((next : Course) → IsGood next → IsTitled next.progress → AreTold (plain_from next (n + 1) end rows).titles)
-        → AreTold (plain_next (λ next. plain_from next (n + 1) end rows) c (record { number = n; line = row.line }) r).titles
-    by (Err fault) can more = ended_told c.progress (record { number = n; line = row.line }) (Some fault) t
+        → ((next : Course) → IsGood next → IsTitled next.progress → AreTold (plain_from column next (n + 1) end rows).titles)
+        → AreTold (plain_next (λ next. plain_from column next (n + 1) end rows) c (origin_at column n row.line) r).titles
+    by (Err fault) can more = ended_told c.progress (origin_at column n row.line) (Some fault) t
     by (Ok said) can more = more (course_behind c said) (good_behind said c good (can said refl)) (titled_behind said c t (can said refl))
 
 untold : IsTitled start.progress
 unfolding AreGivable
 untold = record { names = tt; slot = tt }
 
-told_behind : (fault : Option RecordFault) (line end : ℕ) (rows : List Row) → AreTold (plain_behind fault line end rows).titles
-told_behind None line end rows = told_from rows start 2 end good_start untold
-told_behind (Some fault) line end rows = ended_told start.progress (record { number = 1; line = line }) (Some fault) untold
+told_behind : (column : ℕ → ℕ) (fault : Option RecordFault) (line end : ℕ) (rows : List Row) → AreTold (plain_behind column fault line end rows).titles
+told_behind column None line end rows = told_from column rows start 2 end good_start untold
+told_behind column (Some fault) line end rows = ended_told start.progress (origin_at column 1 line) (Some fault) untold
 
-of_rows : (rs : List Row) (end : ℕ) (p : Plain) → plain_of end rs ≡ Some p → AreTold p.titles
-of_rows [] end p e = let bad : None ≡ Some p = e in cc
-of_rows (row ∷ rows) end p e =
+of_rows : (column : ℕ → ℕ) (rs : List Row) (end : ℕ) (p : Plain) → plain_of column end rs ≡ Some p → AreTold p.titles
+of_rows column [] end p e = let bad : None ≡ Some p = e in cc
+of_rows column (row ∷ rows) end p e =
     let fault = heading_fault row.fields in
-    by (is_plan_heading row.fields) (plain_behind fault row.line end rows) (told_behind fault row.line end rows) e
+    by (is_plan_heading row.fields) (plain_behind column fault row.line end rows) (told_behind column fault row.line end rows) e
   where
-    by : (b : Bool) (made : Plain) → AreTold made.titles → (if b then Some (with_heading row.line made) else None) ≡ Some p → AreTold p.titles
+    by : (b : Bool) (made : Plain) → AreTold made.titles → (if b then Some (with_heading column row.line made) else None) ≡ Some p → AreTold p.titles
     by true made are e =
-        let same : with_heading row.line made ≡ p = cc in
+        let same : with_heading column row.line made ≡ p = cc in
         subst (λ (q : Plain). AreTold q.titles) same are
     by false made are e = let bad : None ≡ Some p = e in cc
 
 pub titles_are_told : TitlesAreTold
-titles_are_told bytes p e = of_rows (rows bytes).rows (rows bytes).end p e
+titles_are_told bytes p e = of_rows (first_column bytes) (rows bytes).rows (rows bytes).end p e

@@ -31,7 +31,7 @@ use Rattle.pf_script.specs.declared.plan.said.Said.{Said}
 use Rattle.pf_script.specs.declared.plan.said.Said.TheVariants.{Settings, Slot, Name, Asks}
 use Rattle.pf_script.specs.declared.plan.state.Progress.{Progress}
 use Rattle.pf_plain_script.specs.declared.origin.Origin.{Origin}
-use Rattle.pf_plain_script.specs.Plain.{Course, Plain, course_behind, desk_behind, ended, given, plain_behind, plain_from, plain_next, plain_of, start, with_heading, with_said}
+use Rattle.pf_plain_script.specs.Plain.{Course, Plain, course_behind, desk_behind, ended, first_column, given, origin_at, plain_behind, plain_from, plain_next, plain_of, start, with_heading, with_said}
 use Rattle.pf_plain_script.specs.Written.{heading_fields}
 use Rattle.pf_version_laws.specs.Retold.{IsRetold, IsSameFault, ScriptsAreRetold, lines_said, saids_behind, saids_from, saids_next, saids_of, settings_said}
 use Rattle.pf_version_laws.proofs.Numbering.{GivesShort, IsNumbering, given_short, line_kept}
@@ -119,6 +119,7 @@ one_more number origin origins None (Some f) h = absurd h
 one_more number origin origins (Some b) None h = absurd h
 one_more number origin origins (Some b) (Some f) h = record {
   before = origin ∷ h.before;
+  column = h.column;
   whole = ap (λ (os : List Origin). origin ∷ os) h.whole;
   count = omega (arith, h.count);
 }
@@ -127,9 +128,9 @@ bad_alike : (b : Bool) (number : ℕ) (places : List ℕ) (p : Progress) (origin
     → Alike number [] (ended p origin (Some fault)) (readings_from (stage_of b) number places (ended p origin (Some fault)).records)
 unfolding readings_from
 bad_alike true number places p origin fault =
-    rw bad_behind (record { opening = refl; lines = refl; fault = record { before = []; whole = refl; count = omega arith } })
+    rw bad_behind (record { opening = refl; lines = refl; fault = record { before = []; column = origin.column; whole = refl; count = omega arith } })
 bad_alike false number places p origin fault =
-    rw bad_before (record { opening = refl; lines = refl; fault = record { before = []; whole = refl; count = omega arith } })
+    rw bad_before (record { opening = refl; lines = refl; fault = record { before = []; column = origin.column; whole = refl; count = omega arith } })
 
 at_end : (b : Bool) (number : ℕ) (places : List ℕ) (p : Progress) (origin : Origin)
     → Alike number [] (ended p origin (if b then None else Some (fault_at 0 NoSettings)))
@@ -160,22 +161,22 @@ said_alike (Asks line label) c number places origin saids p can more =
       fault = one_more number origin p.origins p.bad _ m.fault;
     })
 
-alike_from : (rows : List Row) (c : Course) (number n end : ℕ) (places : List ℕ) → IsGood c
-    → Alike number (saids_from c rows) (plain_from c n end rows) (readings_from (stage_of c.progress.opened) number places (plain_from c n end rows).records)
-alike_from [] c number n end places good = at_end c.progress.opened number places c.progress (record { number = n; line = end })
-alike_from (row ∷ rows) c number n end places good =
+alike_from : (column : ℕ → ℕ) (rows : List Row) (c : Course) (number n end : ℕ) (places : List ℕ) → IsGood c
+    → Alike number (saids_from c rows) (plain_from column c n end rows) (readings_from (stage_of c.progress.opened) number places (plain_from column c n end rows).records)
+alike_from column [] c number n end places good = at_end c.progress.opened number places c.progress (origin_at column n end)
+alike_from column (row ∷ rows) c number n end places good =
     by (said_at c.progress row.fields) (λ said is. said_written c.progress row.fields said good.progress is)
-    (λ next from ahead is. alike_from rows next from (n + 1) end ahead is)
+    (λ next from ahead is. alike_from column rows next from (n + 1) end ahead is)
   where
     by : (r : Result Said RecordFault) → ((said : Said) → r ≡ Ok said → CanBeWritten c.progress.opened c.progress.names said)
         → ((next : Course) (from : ℕ) (ahead : List ℕ) → IsGood next
-        → Alike from (saids_from next rows) (plain_from next (n + 1) end rows) (readings_from (stage_of next.progress.opened) from ahead (plain_from next (n + 1) end rows).records))
+        → Alike from (saids_from next rows) (plain_from column next (n + 1) end rows) (readings_from (stage_of next.progress.opened) from ahead (plain_from column next (n + 1) end rows).records))
         → Alike number (saids_next (λ next. saids_from next rows) c r)
-        (plain_next (λ next. plain_from next (n + 1) end rows) c (record { number = n; line = row.line }) r)
-        (readings_from (stage_of c.progress.opened) number places (plain_next (λ next. plain_from next (n + 1) end rows) c (record { number = n; line = row.line }) r).records)
-    by (Err fault) can more = bad_alike c.progress.opened number places c.progress (record { number = n; line = row.line }) fault
+        (plain_next (λ next. plain_from column next (n + 1) end rows) c (origin_at column n row.line) r)
+        (readings_from (stage_of c.progress.opened) number places (plain_next (λ next. plain_from column next (n + 1) end rows) c (origin_at column n row.line) r).records)
+    by (Err fault) can more = bad_alike c.progress.opened number places c.progress (origin_at column n row.line) fault
     by (Ok said) can more =
-        said_alike said c number places (record { number = n; line = row.line }) (saids_from (course_behind c said) rows) (plain_from (course_behind c said) (n + 1) end rows)
+        said_alike said c number places (origin_at column n row.line) (saids_from (course_behind c said) rows) (plain_from column (course_behind c said) (n + 1) end rows)
         (can said refl) (λ next ahead. more (course_behind c said) next ahead (good_behind said c good (can said refl)))
 
 heading_read : record_at Beginning heading_fields ≡ Ok Heading
@@ -189,47 +190,47 @@ good_start = record {
 }
 
 -- after the heading, which may be the bad one
-behind_alike : (fault : Option RecordFault) (line end : ℕ) (rows : List Row) (places : List ℕ)
-    → Alike 2 (saids_behind fault rows) (plain_behind fault line end rows) (readings_from Headed 2 places (plain_behind fault line end rows).records)
-behind_alike None line end rows places = alike_from rows start 2 2 end places good_start
-behind_alike (Some fault) line end rows places = bad_alike false 2 places start.progress (record { number = 1; line = line }) fault
+behind_alike : (column : ℕ → ℕ) (fault : Option RecordFault) (line end : ℕ) (rows : List Row) (places : List ℕ)
+    → Alike 2 (saids_behind fault rows) (plain_behind column fault line end rows) (readings_from Headed 2 places (plain_behind column fault line end rows).records)
+behind_alike column None line end rows places = alike_from column rows start 2 2 end places good_start
+behind_alike column (Some fault) line end rows places = bad_alike false 2 places start.progress (origin_at column 1 line) fault
 
-told_again : (fault : Option RecordFault) (line end : ℕ) (rows : List Row) (places : List ℕ)
-    → IsRetold (saids_behind fault rows) (with_heading line (plain_behind fault line end rows))
-    (told_in (readings_from Beginning 1 places (heading_fields ∷ (plain_behind fault line end rows).records)))
+told_again : (column : ℕ → ℕ) (fault : Option RecordFault) (line end : ℕ) (rows : List Row) (places : List ℕ)
+    → IsRetold (saids_behind fault rows) (with_heading column line (plain_behind column fault line end rows))
+    (told_in (readings_from Beginning 1 places (heading_fields ∷ (plain_behind column fault line end rows).records)))
 unfolding readings_from
-told_again fault line end rows places =
-    let p = plain_behind fault line end rows in
-    let m = behind_alike fault line end rows (lines_behind places) in
+told_again column fault line end rows places =
+    let p = plain_behind column fault line end rows in
+    let m = behind_alike column fault line end rows (lines_behind places) in
     rw heading_read
     (record {
       opening = m.opening;
       lines = m.lines;
-      fault = one_more 1 (record { number = 1; line = line }) p.origins p.bad _ m.fault;
+      fault = one_more 1 (origin_at column 1 line) p.origins p.bad _ m.fault;
     })
 
-retold : (fault : Option RecordFault) (line end : ℕ) (rows : List Row)
-    → IsRetold (saids_behind fault rows) (with_heading line (plain_behind fault line end rows)) (told (table_text (with_heading line (plain_behind fault line end rows)).records))
-retold fault line end rows =
-    let p = plain_behind fault line end rows in
+retold : (column : ℕ → ℕ) (fault : Option RecordFault) (line end : ℕ) (rows : List Row)
+    → IsRetold (saids_behind fault rows) (with_heading column line (plain_behind column fault line end rows)) (told (table_text (with_heading column line (plain_behind column fault line end rows)).records))
+retold column fault line end rows =
+    let p = plain_behind column fault line end rows in
     let text = table_text (heading_fields ∷ p.records) in
     subst
-    (λ (records : List (List (List ℕ))). IsRetold (saids_behind fault rows) (with_heading line p) (told_in (readings_from Beginning 1 (record_lines text) records)))
-    (sym (read_again fault line end rows)) (told_again fault line end rows (record_lines text))
+    (λ (records : List (List (List ℕ))). IsRetold (saids_behind fault rows) (with_heading column line p) (told_in (readings_from Beginning 1 (record_lines text) records)))
+    (sym (read_again column fault line end rows)) (told_again column fault line end rows (record_lines text))
 
-of_rows : (rs : List Row) (end : ℕ) (p : Plain) → plain_of end rs ≡ Some p → IsRetold (saids_of rs) p (told (table_text p.records))
-of_rows [] end p e = let bad : None ≡ Some p = e in cc
-of_rows (row ∷ rows) end p e =
+of_rows : (column : ℕ → ℕ) (rs : List Row) (end : ℕ) (p : Plain) → plain_of column end rs ≡ Some p → IsRetold (saids_of rs) p (told (table_text p.records))
+of_rows column [] end p e = let bad : None ≡ Some p = e in cc
+of_rows column (row ∷ rows) end p e =
     let fault = heading_fault row.fields in
-    by (is_plan_heading row.fields) (plain_behind fault row.line end rows) (retold fault row.line end rows) e
+    by (is_plan_heading row.fields) (plain_behind column fault row.line end rows) (retold column fault row.line end rows) e
   where
     by : (b : Bool) (made : Plain)
-        → IsRetold (saids_of (row ∷ rows)) (with_heading row.line made) (told (table_text (with_heading row.line made).records))
-        → (if b then Some (with_heading row.line made) else None) ≡ Some p → IsRetold (saids_of (row ∷ rows)) p (told (table_text p.records))
+        → IsRetold (saids_of (row ∷ rows)) (with_heading column row.line made) (told (table_text (with_heading column row.line made).records))
+        → (if b then Some (with_heading column row.line made) else None) ≡ Some p → IsRetold (saids_of (row ∷ rows)) p (told (table_text p.records))
     by true made is e =
-        let same : with_heading row.line made ≡ p = cc in
+        let same : with_heading column row.line made ≡ p = cc in
         subst (λ (q : Plain). IsRetold (saids_of (row ∷ rows)) q (told (table_text q.records))) same is
     by false made is e = let bad : None ≡ Some p = e in cc
 
 pub scripts_are_retold : ScriptsAreRetold
-scripts_are_retold bytes p e = of_rows (rows bytes).rows (rows bytes).end p e
+scripts_are_retold bytes p e = of_rows (first_column bytes) (rows bytes).rows (rows bytes).end p e

@@ -49,10 +49,11 @@ lines_said number (Slot length ∷ saids) = lines_said number saids
 lines_said number (Name task name ∷ saids) = lines_said number saids
 lines_said number (Asks line label ∷ saids) = record { number = number; asks = line } ∷ lines_said (number + 1) saids
 
--- the last of the records from this number on, which have these origins
-pub record IsLast (number : ℕ) (origins : List Origin) (last : ℕ) (origin : Origin) : Type 0 where
+-- the last of the records from this number on, which have these origins: it comes from the record of the number `source`, on this line
+pub record IsLast (number : ℕ) (origins : List Origin) (last source line : ℕ) : Type 0 where
   pub before : List Origin
-  pub whole : origins ≡ before ++ origin ∷ []
+  pub column : ℕ
+  pub whole : origins ≡ before ++ record { number = source; line = line; column = column } ∷ []
   pub count : last ≡ number + length before
 
 -- a fault is told where a record of a plan is bad, and lies in the record of version 2 that stands for it, the last one
@@ -61,7 +62,7 @@ IsSameFault number origins None None = ⊤
 IsSameFault number origins None (Some told) = ⊥
 IsSameFault number origins (Some bad) None = ⊥
 IsSameFault number origins (Some bad) (Some told) =
-    IsLast number origins told.bad.number (record { number = bad.number; line = bad.line })
+    IsLast number origins told.bad.number bad.number bad.line
 
 -- the settings and the lines of what was said, and the same fault
 pub record IsRetold (saids : List Said) (p : Plain) (t : Told) : Type 0 where

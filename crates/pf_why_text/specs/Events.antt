@@ -5,7 +5,6 @@ use Rattle.std.specs.List.{flat_map}
 use Rattle.std.specs.Option.{option_and_then, option_map_or}
 use Rattle.pf_scenario.specs.Scenario.{Plan}
 use Rattle.pf_scenario.specs.declared.event.Numbered.{Numbered}
-use Rattle.pf_admit.specs.Refusals.{denial_code, denial_name}
 use Rattle.pf_run.specs.Record.{Slot}
 use Rattle.pf_run.specs.declared.denied.Denied.{Denied}
 use Rattle.pf_vocabulary.specs.declared.names.named.Named.{Named}
@@ -21,8 +20,7 @@ sentence_text names grounds = grounds_text (option_and_then (name_of names) (tas
 -- that an event was denied, and why, in the record r of the scenario
 abbrev pub denied_text : List Named → Plan → List Slot → Denied → List ℕ
 denied_text names s r d =
-    (codes "denied " ++ (decimal (denial_code d.denial) ++ (codes " " ++ (denial_name d.denial ++ codes ": "))))
-    ++ option_map_or (sentence_text names) (grounds_of s r d) []
+    codes "denied: " ++ option_map_or (sentence_text names) (grounds_of s r d) []
 
 -- whether an event was taken
 abbrev pub outcome_text : List Named → Plan → List Slot → Option Denied → List ℕ

@@ -35,7 +35,7 @@ pub record WorkedSlots : Type 0 where
   -- a leave that is denied, and when the task may leave; a subtask that runs before its release; a clock that is stopped
   pub denied : why_text [] (seen_after busy 16) 4 (Some 1) ≡
       codes "slot 4 of 16: processors in use 2 of 2, base 12, load 24, room 24, subtasks that may run 2\n"
-      ++ codes "event 10, leave,4,4: denied 22 TooEarly: 4/1 ran last, and slot 4 is below 6; the next slot in which it may leave is 9\n"
+      ++ codes "event 10, leave,4,4: denied: 4/1 ran in slot 2: the next slot in which it may leave is 9\n"
       ++ codes "event 5, delay,4,1,2: taken\np0: 2/4\np1: 3/2\n"
       ++ codes "rank  task/sub  window  deadline  bit  group  by        answer\n"
       ++ codes "1     2/4       4..6    6         0    6      -         runs on p0, kept\n"

@@ -29,7 +29,7 @@ ranked_in ranking task =
 abbrev pub whereabouts_in : Seen → List Subtask → ℕ → ℕ → Option Whereabouts
 whereabouts_in seen ranking t task =
     option_or (ranked_in ranking task)
-    (option_or (option_map Absent (absence_of seen.state.plan.events seen.denials (past seen.state.plan (t + 1)) task))
+    (option_or (option_map Absent (absence_of seen.state.plan.events seen.denials (past seen.state.plan (t + 1)) t task))
     (option_map Waits (upcoming_in seen.state.plan (run_of seen.state.plan seen.state.now) t task)))
 
 -- its rank, and what it does

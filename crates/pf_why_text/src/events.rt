@@ -45,12 +45,7 @@ fn push_denied(
         ++ denied_text names.now reasons.now.state.plan (run_of reasons.now.state.plan reasons.now.state.now) denied) }
 {
     let grounds = reasons.grounds(alloc, denied)?;
-    let head = format!(in alloc;
-        "denied {} {}: ",
-        denied.denial.code(),
-        denied.denial.name()
-    )?;
-    text.extend_from_slice(head.as_bytes())?;
+    text.extend_from_slice(b"denied: ")?;
     match grounds {
         Some(grounds) => push_sentence(text, names, &grounds),
         None => Ok(()),

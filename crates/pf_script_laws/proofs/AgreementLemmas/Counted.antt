@@ -56,13 +56,13 @@ none_refused st (e ∷ es) legal taken =
     counts (Stepped slot row) is = refl
     counts (Refused fault) is = absurd is
 
-module _ (file : List ℕ) (names : List Named) (whole : Bool) where
+module _ (file : List ℕ) (hints : Bool) (names : List Named) (whole : Bool) where
   one_line : (st : State) (place : Place) (line : Line) (c : Recounted) → refused_in st (commands_of line) ≡ 0
-      → (behind_line file names whole st place line c).refusals.commands ≡ c.refusals.commands
+      → (behind_line file hints names whole st place line c).refusals.commands ≡ c.refusals.commands
   one_line st place (Edit change strict) c none = by (reply_to st (command.Edit change strict)) none
     where
       by : (r : Reply) → one_if_refused (outcome_of r) + 0 ≡ 0
-          → (behind_change file names whole st.plan place change (outcome_of r) c).refusals.commands ≡ c.refusals.commands
+          → (behind_change file hints names whole st.plan place change (outcome_of r) c).refusals.commands ≡ c.refusals.commands
       by (Edited id) e = refl
       by (Stepped slot row) e = refl
       by (Refused fault) e = absurd (omega (arith, e))
@@ -73,13 +73,13 @@ module _ (file : List ℕ) (names : List Named) (whole : Bool) where
       ap (λ b. (if b then c else behind_steps file whole place h count n c).refusals.commands) zero
 
   all_lines : (place_at : ℕ → Place) (st : State) (lines : List LineTold) (c : Recounted) → refused_in st (commands_in lines) ≡ 0
-      → (behind_lines file names whole place_at st lines c).refusals.commands ≡ c.refusals.commands
+      → (behind_lines file hints names whole place_at st lines c).refusals.commands ≡ c.refusals.commands
   all_lines place_at st [] c none = refl
   all_lines place_at st (line ∷ lines) c none =
       let both = refused_split st (commands_of line.asks) (commands_in lines) in
       let first : refused_in st (commands_of line.asks) ≡ 0 = omega (arith, none, both) in
       let rest : refused_in (state_behind st (commands_of line.asks)) (commands_in lines) ≡ 0 = omega (arith, none, both) in
-      all_lines place_at (state_behind st (commands_of line.asks)) lines (behind_line file names whole st (place_at line.number) line.asks c) rest
+      all_lines place_at (state_behind st (commands_of line.asks)) lines (behind_line file hints names whole st (place_at line.number) line.asks c) rest
       ∙ one_line st (place_at line.number) line.asks c first
 
 done_fits : (v : Verdict) → (status_of_verdict v ≡ Done) ↔ (v ≡ Fits)
@@ -89,7 +89,7 @@ done_fits DoesNotFit = (λ e. cc, λ e. cc)
 
 pub fits_are_done : FitsAreDone
 unfolding recounted
-fits_are_done m quantum tasks plan format file origins titles script answer written measured asks made =
+fits_are_done m quantum tasks plan format file hints origins titles script answer written measured asks made =
     let behind = made.behind in
     let same : behind.opening ≡ asks.opening = let bad : Some behind.opening ≡ Some asks.opening = sym behind.opens ∙ asks.opens in cc in
     let settings = behind.settings ∙ ap (λ (o : ScriptSettings). o.settings) same ∙ asks.settings in
@@ -99,13 +99,13 @@ fits_are_done m quantum tasks plan format file origins titles script answer writ
     let none : refused_in (opening_state (plan_settings m plan.base)) (commands_in (told script).rest.lines) ≡ 0 =
     subst (λ cs. refused_in (opening_state (plan_settings m plan.base)) cs ≡ 0) behind.asked
     (none_refused (opening_state (plan_settings m plan.base)) behind.history legal taken) in
-    let at = λ (o : ScriptSettings). behind_lines file titles.names (tells_all format) (place_of origins script) (opening_state o.settings) (told script).rest.lines
+    let at = λ (o : ScriptSettings). behind_lines file hints titles.names (tells_all format) (place_of origins script) (opening_state o.settings) (told script).rest.lines
     (none_yet (most_lines format)) in
     let is : Some made.came ≡ Some (at asks.opening) = made.counted ∙ ap (option_map at) asks.opens in
     let came : made.came ≡ at asks.opening = cc in
     let count : made.came.refusals.commands ≡ 0 =
     ap (λ (r : Recounted). r.refusals.commands) came
-    ∙ all_lines file titles.names (tells_all format) (place_of origins script) (opening_state asks.opening.settings) (told script).rest.lines (none_yet (most_lines format))
+    ∙ all_lines file hints titles.names (tells_all format) (place_of origins script) (opening_state asks.opening.settings) (told script).rest.lines (none_yet (most_lines format))
     (subst (λ q. refused_in (opening_state q) (commands_in (told script).rest.lines) ≡ 0) (sym asks.settings) none) in
     let verdict = plans_fit m quantum tasks plan behind.history made.seen written measured settings asked behind.stands in
     let ends : answer.ending.status ≡ status_of_verdict (verdict_of (grounds_of made.seen 0)) =

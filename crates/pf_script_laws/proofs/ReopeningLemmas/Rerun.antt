@@ -114,7 +114,7 @@ module _ (every : ℕ) (seen : Seen) (can : CanBeRerun every seen) (titles : Tit
       let lines = lines_told (first_number s) (insert_lines seen.state.plan.events ++ step_lines seen.state.now) in
       let takes = subst (TakesAll (opening_state s)) (sym (of_lines (first_number s) seen.state.plan.events seen.state.now)) taken in
       let places = place_of None (script_text_of every seen untitled) in
-      ap (λ t. option_map_or (λ r. map refusal_of r.refused) (recounted_told [] [] true places 0 t) []) (told_again every seen can.written)
+      ap (λ t. option_map_or (λ r. map refusal_of r.refused) (recounted_told [] false [] true places 0 t) []) (told_again every seen can.written)
       ∙ ap (map refusal_of) (none_refused places (opening_state s) lines (none_yet 0) takes)
 
   none_told : (format : Format) → refusals_for format None (script_text_of every seen untitled) ≡ []

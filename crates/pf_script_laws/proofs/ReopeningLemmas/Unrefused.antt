@@ -1,5 +1,5 @@
 -- Of a script all of whose commands the machine takes, no record is refused.
-use Rattle.std.proofs.Common.{◌≡◌, ◌∙◌, ℕ, true, List, [], ◌∷◌, ◌++◌, refl, sym, ap, subst, arith, replicate}
+use Rattle.std.proofs.Common.{◌≡◌, ◌∙◌, ℕ, true, false, List, [], ◌∷◌, ◌++◌, refl, sym, ap, subst, arith, replicate}
 use Rattle.pf_desk.specs.Machine.{State, next_state, reply_to, state_after}
 use Rattle.pf_desk.specs.declared.command.Command.{Command}
 use Rattle.pf_desk.specs.declared.command.Command.TheVariants as command
@@ -37,10 +37,10 @@ takes_behind st (c ∷ cs) rest takes =
 
 -- .. and of a record and those after it
 line_taken : (st : State) (place : Place) (asks : Line) (rest : List Command) (c : Recounted) → TakesAll st (commands_of asks ++ rest)
-    → (behind_line [] [] true st place asks c).refused ≡ c.refused
+    → (behind_line [] false [] true st place asks c).refused ≡ c.refused
 line_taken st place (Edit change strict) rest c takes = by (reply_to st (command.Edit change strict)) takes.0
   where
-    by : (reply : Reply) → IsTaken reply → (behind_change [] [] true st.plan place change (outcome_of reply) c).refused ≡ c.refused
+    by : (reply : Reply) → IsTaken reply → (behind_change [] false [] true st.plan place change (outcome_of reply) c).refused ≡ c.refused
     by (Edited id) taken = refl
     by (Stepped slot row) taken = refl
     by (Refused fault) taken = absurd taken
@@ -49,9 +49,9 @@ line_taken st place (Steps count) rest c takes =
 
 -- Use: none of these records is.
 pub none_refused : (place_at : ℕ → Place) (st : State) (lines : List LineTold) (c : Recounted) → TakesAll st (commands_in lines)
-    → (behind_lines [] [] true place_at st lines c).refused ≡ c.refused
+    → (behind_lines [] false [] true place_at st lines c).refused ≡ c.refused
 none_refused place_at st [] c takes = refl
 none_refused place_at st (line ∷ lines) c takes =
-    none_refused place_at (state_behind_line st line.asks) lines (behind_line [] [] true st (place_at line.number) line.asks c)
+    none_refused place_at (state_behind_line st line.asks) lines (behind_line [] false [] true st (place_at line.number) line.asks c)
     (takes_behind st (commands_of line.asks) (commands_in lines) takes)
     ∙ line_taken st (place_at line.number) line.asks (commands_in lines) c takes

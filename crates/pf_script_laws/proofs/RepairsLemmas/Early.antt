@@ -35,9 +35,9 @@ never : {A : Type 0} (f : A → Grounds) (o : Option A) (g : Grounds) → ((a : 
 never f None g differ e = cc
 never f (Some a) g differ e = differ a (let same : f a ≡ g = cc in same)
 
-module _ (s : Plan) (r : List Slot) (task sub slot bound t last : ℕ) (before : List Numbered) where
+module _ (s : Plan) (r : List Slot) (task sub slot ran t later horizon : ℕ) (before : List Numbered) where
   abbrev told : Grounds
-  told = TooEarly task sub slot bound (Some t) last
+  told = TooEarly task sub slot ran (Some t) later horizon
 
   record IsEarly (event : Event) : Type 0 where
     pub is_leave : event ≡ Leave slot task
@@ -87,12 +87,12 @@ pub record IsFound (s : Plan) (n task slot t : ℕ) (d : Denied) : Type 0 where
   pub joined : joined_at s.settings.base (in_force (denials_of (run_of s n)) (before_event d.id (past s n))) task ≡ Some j
   pub next : leaves_in s (run_of s n) j slot (last_slot s.settings n) ≡ Some t
 
-found_by : (s : Plan) (n m task sub slot bound t last : ℕ) (d : Denied) (o : Option Numbered) → m ≡ n → length (run_of s n) ≡ m → event_of d.id (past s m) ≡ o
+found_by : (s : Plan) (n m task sub slot ran t later horizon : ℕ) (d : Denied) (o : Option Numbered) → m ≡ n → length (run_of s n) ≡ m → event_of d.id (past s m) ≡ o
     → option_and_then (λ x. grounds_for s (run_of s n) (denials_of (run_of s n)) (before_event d.id (past s m)) x.event d.denial) o
-    ≡ Some (TooEarly task sub slot bound (Some t) last) → IsFound s n task slot t d
-found_by s n m task sub slot bound t last d None same long is e = cc
-found_by s n m task sub slot bound t last d (Some x) same long is e =
-    let early = early_for s (run_of s n) task sub slot bound t last (before_event d.id (past s m)) x.event d.denial e in record {
+    ≡ Some (TooEarly task sub slot ran (Some t) later horizon) → IsFound s n task slot t d
+found_by s n m task sub slot ran t later horizon d None same long is e = cc
+found_by s n m task sub slot ran t later horizon d (Some x) same long is e =
+    let early = early_for s (run_of s n) task sub slot ran t later horizon (before_event d.id (past s m)) x.event d.denial e in record {
       x = x;
       found = ap (λ k. event_of d.id (past s k)) (sym same) ∙ is;
       is_leave = early.is_leave;
@@ -148,6 +148,6 @@ module _ (next_leave : NextLeaveIsFirst) (s : Plan) (n : ℕ) (d : Denied) (task
       }
 
 pub early_leaves_may_be_altered : NextLeaveIsFirst → EarlyLeavesMayBeAltered
-early_leaves_may_be_altered next_leave s n d task sub slot bound t last scenario at grounds =
+early_leaves_may_be_altered next_leave s n d task sub slot ran t later horizon scenario at grounds =
     repaired next_leave s n d task slot t scenario at
-    (found_by s n (length (run_of s n)) task sub slot bound t last d _ (computed_length s n scenario) refl refl grounds)
+    (found_by s n (length (run_of s n)) task sub slot ran t later horizon d _ (computed_length s n scenario) refl refl grounds)

@@ -30,25 +30,25 @@ pub record IsSaid (p : Progress) (saids : List Said) (made : Plain) : Type 0 whe
   pub told : made.titles ≡ titles_of (behind p saids)
 
 -- Use: records that say something are all written.
-pub said_plain : (rows : List Row) (c : Course) (n end : ℕ) (saids : List Said) → AllSay c.progress (map (λ row. row.fields) rows) saids → HaveNoLabel saids
-    → IsSaid c.progress saids (plain_from c n end rows)
+pub said_plain : (column : ℕ → ℕ) (rows : List Row) (c : Course) (n end : ℕ) (saids : List Said) → AllSay c.progress (map (λ row. row.fields) rows) saids → HaveNoLabel saids
+    → IsSaid c.progress saids (plain_from column c n end rows)
 unfolding AllSay
-said_plain [] c n end [] say none = rw say (record { records = refl; good = refl; told = refl })
-said_plain [] c n end (said ∷ saids) say none = absurd say
-said_plain (row ∷ rows) c n end [] say none = absurd say
-said_plain (row ∷ rows) c n end (Settings s ∷ saids) say none =
-    let more = said_plain rows (course_behind c (Settings s)) (n + 1) end saids say.1 none in
+said_plain column [] c n end [] say none = rw say (record { records = refl; good = refl; told = refl })
+said_plain column [] c n end (said ∷ saids) say none = absurd say
+said_plain column (row ∷ rows) c n end [] say none = absurd say
+said_plain column (row ∷ rows) c n end (Settings s ∷ saids) say none =
+    let more = said_plain column rows (course_behind c (Settings s)) (n + 1) end saids say.1 none in
     rw say.0 (record { records = ap (λ (rs : List (List (List ℕ))). said_records (Settings s) ++ rs) more.records; good = more.good; told = more.told })
-said_plain (row ∷ rows) c n end (Slot length ∷ saids) say none =
-    let more = said_plain rows (course_behind c (Slot length)) (n + 1) end saids say.1 none in
+said_plain column (row ∷ rows) c n end (Slot length ∷ saids) say none =
+    let more = said_plain column rows (course_behind c (Slot length)) (n + 1) end saids say.1 none in
     rw say.0 (record { records = more.records; good = more.good; told = more.told })
-said_plain (row ∷ rows) c n end (Name task name ∷ saids) say none =
-    let more = said_plain rows (course_behind c (Name task name)) (n + 1) end saids say.1 none in
+said_plain column (row ∷ rows) c n end (Name task name ∷ saids) say none =
+    let more = said_plain column rows (course_behind c (Name task name)) (n + 1) end saids say.1 none in
     rw say.0 (record { records = more.records; good = more.good; told = more.told })
-said_plain (row ∷ rows) c n end (Asks line None ∷ saids) say none =
-    let more = said_plain rows (course_behind c (Asks line None)) (n + 1) end saids say.1 none in
+said_plain column (row ∷ rows) c n end (Asks line None ∷ saids) say none =
+    let more = said_plain column rows (course_behind c (Asks line None)) (n + 1) end saids say.1 none in
     rw say.0 (record { records = ap (λ (rs : List (List (List ℕ))). said_records (Asks line None) ++ rs) more.records; good = more.good; told = more.told })
-said_plain (row ∷ rows) c n end (Asks line (Some label) ∷ saids) say none = absurd none
+said_plain column (row ∷ rows) c n end (Asks line (Some label) ∷ saids) say none = absurd none
 
 -- Use: events and steps change no title.
 pub events_behind : (xs : List Numbered) (n : ℕ) (p : Progress) → titles_of (behind p (map (λ x. insert_said x.event) xs ++ step_saids n)) ≡ titles_of p

@@ -23,7 +23,7 @@ use Rattle.pf_script.specs.Plan.Progress.{at_heading}
 use Rattle.pf_script.specs.declared.plan.said.Said.{Said}
 use Rattle.pf_script.specs.declared.plan.said.Said.TheVariants.{Settings, Slot, Asks}
 use Rattle.pf_script.specs.declared.plan.state.Progress.{Progress}
-use Rattle.pf_plain_script.specs.Plain.{Plain, plain, plain_from, plain_of, start, titles_of, with_heading}
+use Rattle.pf_plain_script.specs.Plain.{Plain, first_column, plain, plain_from, plain_of, start, titles_of, with_heading}
 use Rattle.pf_plain_script.specs.Written.{event_fields, heading_fields, said_records}
 use Rattle.pf_script_laws.specs.Conversions.Read.{AllSay}
 use Rattle.pf_script_laws.proofs.ConversionsLemmas.Again.{rows_again}
@@ -153,16 +153,16 @@ module _ (every : ℕ) (seen : Seen) (titles : Titles) (can : CanBeTitled every 
   is_plan : script_rows every seen titles ≡ heading ∷ records
   is_plan = rw told.is_plan refl
 
-  of_rows : (rs : List Row) (end : ℕ) → map (λ row. row.fields) rs ≡ heading ∷ records
-      → (p : Plain) × (plain_of end rs ≡ Some p) × TellsTitled every seen titles p
+  of_rows : (column : ℕ → ℕ) (rs : List Row) (end : ℕ) → map (λ row. row.fields) rs ≡ heading ∷ records
+      → (p : Plain) × (plain_of column end rs ≡ Some p) × TellsTitled every seen titles p
   unfolding is_plan_heading heading_fault is_word script_text_of
-  of_rows [] end is = cc
-  of_rows (row ∷ rs) end is =
+  of_rows column [] end is = cc
+  of_rows column (row ∷ rs) end is =
       let first : row.fields ≡ codes "plan" ∷ codes "1" ∷ [] = cc in
       let rest : map (λ row. row.fields) rs ≡ records = cc in
-      let said = said_plain rs start 2 end script (subst (λ (t : List (List (List ℕ))). AllSay at_heading t script) (sym rest) all_say)
+      let said = said_plain column rs start 2 end script (subst (λ (t : List (List (List ℕ))). AllSay at_heading t script) (sym rest) all_say)
       (no_labels titles.slot titles.names events n) in (
-        with_heading row.line (plain_from start 2 end rs),
+        with_heading column row.line (plain_from column start 2 end rs),
         rw first refl,
         record {
           text = ap table_text (ap (λ (t : List (List (List ℕ))). heading_fields ∷ t) said.records ∙ written);
@@ -177,7 +177,7 @@ module _ (every : ℕ) (seen : Seen) (titles : Titles) (can : CanBeTitled every 
       let text = table_text (heading ∷ records) in
       let all = rows_plain s every n titles events can.scenario.settings.limits (can.some, can.within) told.slot told.names events_short (omega (arith, can.stepped)) in
       let fields = rows_again (heading ∷ records) all (unmarked s every (title_records titles ++ (insert_records events ++ step_records n))) in
-      let made = of_rows (rows text).rows (rows text).end fields in
+      let made = of_rows (first_column text) (rows text).rows (rows text).end fields in
       subst (λ (rs : List (List (List ℕ))). (p : Plain) × (plain (table_text rs) ≡ Some p) × TellsTitled every seen titles p) (sym is_plan) made
 
 pub titled_scripts_are_read : TitledScriptsAreRead

@@ -1,5 +1,5 @@
 -- What `fit` answers to the script that a conversion writes.
-use Rattle.std.specs.Prelude.{◌≡◌, ◌⊎◌, ℕ, Some, List}
+use Rattle.std.specs.Prelude.{◌≡◌, ◌⊎◌, ℕ, Bool, Some, List}
 use Rattle.pf_convert.specs.declared.words.conversion.Conversion.{Conversion}
 use Rattle.pf_convert.specs.declared.words.conversion.ConvertFormat.TheVariants.{Script}
 use Rattle.pf_convert.specs.Words.Reading.{IsConversion}
@@ -16,8 +16,8 @@ use Rattle.pf_text.specs.Page.{table_text}
 pub record IsFitAlike (a : Answer) : Type 0 where
   pub script : Plain
   pub is : plain a.text.items ≡ Some script
-  pub alike : (format : FitFormat) (file : List ℕ) (titles : Titles) (answer : Answer)
-      → FitMade format file (Some script.origins) titles (table_text script.records) answer → answer.ending.status ≡ a.ending.status
+  pub alike : (format : FitFormat) (file : List ℕ) (hints : Bool) (titles : Titles) (answer : Answer)
+      → FitMade format file hints (Some script.origins) titles (table_text script.records) answer → answer.ending.status ≡ a.ending.status
 
 -- Of the script that is made of a list `fit` says what the conversion says, whatever the list.
 abbrev pub ConvertAndFitAgree : Type 0

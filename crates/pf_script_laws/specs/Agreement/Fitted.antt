@@ -1,5 +1,5 @@
 -- What `fit` answers to a script that asks for what a plan's script says.
-use Rattle.std.specs.Prelude.{◌≡◌, ◌↔◌, ℕ, ◌*◌, ◌≤◌, Option, Some, List}
+use Rattle.std.specs.Prelude.{◌≡◌, ◌↔◌, ℕ, Bool, ◌*◌, ◌≤◌, Option, Some, List}
 use Rattle.pf_convert.specs.declared.plan.Plan.{Plan}
 use Rattle.pf_vocabulary.specs.declared.fault.answer.Answer.{Answer}
 use Rattle.pf_vocabulary.specs.declared.fault.status.Status.TheVariants.{Done}
@@ -25,6 +25,6 @@ pub record AsksPlan (processors : ℕ) (plan : Plan) (t : Told) : Type 0 where
 -- The status of `fit` is `Done` just where the load is within the processors, as that of the conversion is.
 abbrev pub FitsAreDone : Type 0
 FitsAreDone =
-    (processors quantum : ℕ) (tasks : List Listed) (plan : Plan) (format : FitFormat) (file : List ℕ) (origins : Option (List Origin)) (titles : Titles)
+    (processors quantum : ℕ) (tasks : List Listed) (plan : Plan) (format : FitFormat) (file : List ℕ) (hints : Bool) (origins : Option (List Origin)) (titles : Titles)
     (script : List ℕ) (answer : Answer) → IsWritten processors quantum tasks plan → IsMeasured plan → AsksPlan processors plan (told script)
-    → FitMade format file origins titles script answer → (answer.ending.status ≡ Done) ↔ (plan.load ≤ processors * plan.base)
+    → FitMade format file hints origins titles script answer → (answer.ending.status ≡ Done) ↔ (plan.load ≤ processors * plan.base)

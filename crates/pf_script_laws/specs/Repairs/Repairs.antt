@@ -42,5 +42,5 @@ pub record IsRepair (s : Plan) (id task slot t : ℕ) : Type 0 where
 -- event is not denied in the run up to that slot, and in each slot between it would be too early.
 abbrev pub EarlyLeavesMayBeAltered : Type 0
 EarlyLeavesMayBeAltered =
-    (s : Plan) (n : ℕ) (d : Denied) (task sub slot bound t last : ℕ) → IsScenario s → Contains (denials_of (run_of s n)) d
-    → grounds_of s (run_of s n) d ≡ Some (TooEarly task sub slot bound (Some t) last) → IsRepair s d.id task slot t
+    (s : Plan) (n : ℕ) (d : Denied) (task sub slot ran t later horizon : ℕ) → IsScenario s → Contains (denials_of (run_of s n)) d
+    → grounds_of s (run_of s n) d ≡ Some (TooEarly task sub slot ran (Some t) later horizon) → IsRepair s d.id task slot t

@@ -15,7 +15,7 @@ returns-then-not-is_clean-clause-made c =
     let script = c.args.script.now in
     let found = c.in_ok-found.found in
     let clean : is_clean found ≡ false = search rules in
-    faulty_answer (record_count script) (script_messages file c.args.hints script) (CarriesScript (plain script) file script (record_count script))
+    faulty_answer (record_count script) (script_messages file c.args.hints script) (CarriesScript (plain script) file c.args.hints script (record_count script))
     c.in_ok-not_run.field-0 found c.in_ok-found.ensures clean c.in_ok-not_run.ensures.text c.in_ok-not_run.ensures.ends
 
 pub returns-in-Some-clause-made : goal.returns-in-Some-clause-made
@@ -25,8 +25,8 @@ returns-in-Some-clause-made c =
     let found = c.in_ok-found.found in
     let s = c.in-Some.plain in
     let clean : is_clean found ≡ true = search rules in
-    let carried : IfOk c.plan_carried.result (Carries file (Some s.origins.items) s.titles.names s.text.items found.records) = search rules in
-    plan_carried c.plan_carried.result (plain script) file script s (record_count script) (script_messages file c.args.hints script) found
+    let carried : IfOk c.plan_carried.result (Carries file c.args.hints (Some s.origins.items) s.titles.names s.text.items found.records) = search rules in
+    plan_carried c.plan_carried.result (plain script) file c.args.hints script s (record_count script) (script_messages file c.args.hints script) found
     (rw c.in-Some.is at c.in_ok-plain.ensures) c.in_ok-found.ensures clean carried
 
 pub returns-in-Some-clause-stopped : goal.returns-in-Some-clause-stopped
@@ -45,8 +45,8 @@ returns-clause-made c =
     let script = c.args.script.now in
     let found = c.in_ok-found.found in
     let clean : is_clean found ≡ true = search rules in
-    let carried : IfOk c.carried-in-None.result (Carries file None [] script found.records) = search rules in
-    own_carried c.carried-in-None.result (plain script) file script (record_count script) (script_messages file c.args.hints script) found
+    let carried : IfOk c.carried.result (Carries file c.args.hints None [] script found.records) = search rules in
+    own_carried c.carried.result (plain script) file c.args.hints script (record_count script) (script_messages file c.args.hints script) found
     (rw c.in-None.is at c.in_ok-plain.ensures) c.in_ok-found.ensures clean carried
 
 pub returns-clause-stopped : goal.returns-clause-stopped
@@ -55,5 +55,5 @@ returns-clause-stopped c =
     let script = c.args.script.now in
     let found = c.in_ok-found.found in
     let clean : is_clean found ≡ true = search rules in
-    let stops : IfErr c.carried-in-None.result (Stops (told script).rest.fault) = search rules in
-    own_stopped c.carried-in-None.result file c.args.hints script (record_count script) found (rw c.in-None.is at c.in_ok-plain.ensures) c.in_ok-found.ensures clean stops
+    let stops : IfErr c.carried.result (Stops (told script).rest.fault) = search rules in
+    own_stopped c.carried.result file c.args.hints script (record_count script) found (rw c.in-None.is at c.in_ok-plain.ensures) c.in_ok-found.ensures clean stops

@@ -12,5 +12,5 @@ returns c =
     let missed : c.in_ok-misses.misses.items ≡ misses_of seen.state.plan (run_of seen.state.plan seen.state.now) = search rules in
     let are : AreLate c.in_ok-misses.misses.items c.in_ok-late.late.firsts.items c.in_ok-late.late.counts = search rules in
     subst (λ t. IfOk c.lists_with.result (λ text. text.items ≡ t))
-    (lists_are c.args.file.now c.args.names.now c.args.made.now c.args.refusals.now seen c.in_ok-misses.misses.items missed)
+    (lists_are c.args.file.now c.args.hints c.args.names.now c.args.made.now c.args.refusals.now seen c.in_ok-misses.misses.items missed)
     (c.lists_with.ensures c.in_ok-misses.misses.items are)

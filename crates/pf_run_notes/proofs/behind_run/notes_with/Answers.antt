@@ -1,4 +1,4 @@
-use Rattle.std.proofs.Common.{rules, ◌≡◌, ◌++◌, length}
+use Rattle.std.proofs.Common.{rules, ◌≡◌, ◌++◌, length, true}
 use Rattle.pf_run.specs.Computed.{run_of}
 use Rattle.pf_run_notes.specs.Notes.{counts_text, lines_of, lists_with}
 use Rattle.pf_run_notes.proofs.Behind.{notes_told}
@@ -12,7 +12,7 @@ returns c = λ misses are of_missed.
     let kept = c.args.refusals.now in
     let seen = c.args.snapshot.now in
     let lines : c.count_lines-lines.result ≡ lines_of kept seen misses = c.count_lines-lines.ensures misses are in
-    let w : c.in_ok-text.text.items ≡ lists_with file names made kept seen (run_of seen.state.plan seen.state.now) misses = c.in_ok-text.ensures misses are in
+    let w : c.in_ok-text.text.items ≡ lists_with file true names made kept seen (run_of seen.state.plan seen.state.now) misses = c.in_ok-text.ensures misses are in
     let x : c.push_last.new.text.items ≡ c.in_ok-text.text.items
     ++ counts_text file c.count_lines-lines.result kept.commands (length seen.denials) c.args.missed = search rules in
     notes_told file names made kept seen (run_of seen.state.plan seen.state.now) misses c.args.missed c.count_lines-lines.result

@@ -13,7 +13,7 @@ returns-in-Done c =
           c.note_made.result c.in-Done.is (c.place_of-place.ensures.left origins script bound at.places above) c.note_made.ensures.scenario;
       value = λ origins script bound st at above.
           done_value origins script bound c.args.number st c.args.change c.args.strict was d c.in_ok-outcome.outcome c.in_ok-outcome.ensures.taken at
-          c.args.telling.now.file.now c.args.telling.now.names.now c.args.telling.now.whole c.note_made.result c.place_of-place.result
+          c.args.telling.now.file.now c.args.telling.now.hints c.args.telling.now.names.now c.args.telling.now.whole c.note_made.result c.place_of-place.result
           c.args.recount.now c.note_made.new.recount c.in-Done.is (c.place_of-place.ensures.place origins script bound at.places above) c.note_made.ensures.recount;
       own = λ origins script bound st rest at is.
           done_own origins script bound c.args.number st c.args.change c.args.strict was d c.in_ok-outcome.outcome c.in_ok-outcome.ensures.taken at
@@ -32,7 +32,7 @@ returns-in-Refused c =
           c.note_refused.result c.in-Refused.fault c.in-Refused.is (c.place_of-place.ensures.left origins script bound at.places above) refl;
       value = λ origins script bound st at above.
           refused_value origins script bound c.args.number st c.args.change c.args.strict was d c.in_ok-outcome.outcome c.in_ok-outcome.ensures.taken at
-          c.args.telling.now.file.now c.args.telling.now.names.now c.args.telling.now.whole c.note_refused.result c.in-Refused.fault c.place_of-place.result
+          c.args.telling.now.file.now c.args.telling.now.hints c.args.telling.now.names.now c.args.telling.now.whole c.note_refused.result c.in-Refused.fault c.place_of-place.result
           c.args.recount.now c.note_refused.new.recount c.in-Refused.is (c.place_of-place.ensures.place origins script bound at.places above) c.note_refused.ensures.recount;
       own = λ origins script bound st rest at is. c.note_refused.ensures.own;
       rest = λ rest is.

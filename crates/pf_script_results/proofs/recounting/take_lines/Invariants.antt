@@ -13,8 +13,8 @@ abbrev pub invariant-records : goal.invariant-records
 invariant-records l =
     (origins : Option (List Origin)) (script : List ℕ) (bound : ℕ) (st : State) → IsAt origins script bound st l.fn.course
     → RiseAbove bound l.fn.lines.lines
-    → Stands l.telling.file.now l.telling.names.now l.telling.whole origins script l.course l.recount l.lines.lines
-    (behind_lines l.telling.file.now l.telling.names.now l.telling.whole (place_of origins script) st l.fn.lines.lines l.fn.recount)
+    → Stands l.telling.file.now l.telling.hints l.telling.names.now l.telling.whole origins script l.course l.recount l.lines.lines
+    (behind_lines l.telling.file.now l.telling.hints l.telling.names.now l.telling.whole (place_of origins script) st l.fn.lines.lines l.fn.recount)
     (asked_in l.fn.course.replies ≡ commands_in l.fn.lines.lines)
 
 abbrev pub decreases-records : goal.decreases-records
