@@ -15,9 +15,30 @@ SHOWN = ("schedule", "lags", "misses", "denials", "events", "script", "processor
          "quanta", "report", "full", "trace", "html", "c")
 RANGED = ("schedule", "chart", "svg", "windows", "load", "quanta")
 VALUES = ("report", "full", "trace")
-WORDS = ("settings, slot, name, join, leave, delay, limit, label, alter, strike, strict, step, "
-         + ", ".join(SHOWN) + ", why, fit, undo, save, help, quit")
-BAD = ("stepp", "join 0 1 2", "step 0", "alter", "plan,1", "strike x", 'join,"0,1', "delay 0 1 2 3 4", "settings 1 2")
+# lines that are bad after the settings, with what is told of each and what would be right
+JOIN = "join,SLOT,TASK,COST,PERIOD[,EARLY]"
+BAD = {
+    "stepp": ('"stepp" is no record and no word', "step"),
+    "plan,1": ('"plan" is no record and no word', "help lists the words"),
+    "q": ('"q" is no record and no word', "quit"),
+    "join 0 1 2": (f"field 5: PERIOD is missing: {JOIN}", None),
+    'join,"0,1': (f"field 3: TASK is missing: {JOIN}", None),
+    "delay 0 1 2 3 4": ("field 5: a field too much: delay,SLOT,TASK,BY", None),
+    "alter": ("field 2: ID is missing: alter,ID,EVENT", None),
+    "alter 1 stop": ('field 3: "stop" is no event', "one of join, leave, delay, limit"),
+    "strict undo": ('field 2: "undo" is no change', "undo is a word of pfair desk"),
+    "strike x": ('field 2: ID: "x" labels no event so far', "a label is given by label,TEXT,EVENT, in a line before"),
+    "leave 0 x": ('field 3: TASK: "x" names no task so far', "a name is given by name,TASK,TEXT, in a line before"),
+    "step x": ('field 2: N: "x" is no number of 1 to 15 digits', None),
+    "settings 1 2": ("settings come once, before all changes and steps", None),
+    "undo 1": ("field 2: a field too much: undo", None),
+    "chart 0 1 2": ("field 4: a field too much: chart [F [T]]", None),
+    "why": ("field 2: SLOT is missing: why SLOT [TASK]", None),
+    "why x": ('field 2: "x" is no number of 1 to 15 digits', None),
+    "why 0 5000": ("field 3: 5000 is not within 1 to 4095", None),
+    "save": ("field 2: FILE is missing: save FILE", None),
+    "step\x1b[D": ("no line editing here: rlwrap pfair desk", None),
+}
 
 
 class Told:
@@ -57,20 +78,41 @@ class Plan:
         reply = self.replies(self.script)[len(self.replies(before)):] if before != "plan,1\n" else self.replies(self.script)
         if reply.startswith("event "):
             number = int(reply.split()[1])
-            return number, reply + ("" if self.quiet else self.changed(before))
+            return number, reply + ("" if self.quiet else self.slots(before, fields) + self.changed(before))
         return None, reply + self.sentence(reply)
+
+    def rows(self, script):
+        return self.told.text(script, "run", "-f", "schedule").splitlines()[1:]
+
+    def slots(self, before, fields):
+        """Which slots have another row, where the event of a change, or the one that it struck or altered, is of a slot stepped."""
+        bare = fields[1:] if fields[0] == "strict" else fields
+        event = {"alter": bare[2:], "strike": None}.get(bare[0], bare)
+        touched = [int(it[1]) for it in (event, self.events[int(bare[1])] if bare[0] in ("alter", "strike") else None) if it]
+        old, new = self.rows(before), self.rows(self.script)
+        if min(touched) >= len(old):
+            return ""
+        others = [slot for slot, (was, is_now) in enumerate(zip(old, new)) if was != is_now]
+        if not others:
+            return "  no slot changed\n"
+        return f"  slots {others[0]} to {others[-1]} changed\n" if others[1:] else f"  slot {others[0]} changed\n"
 
     def changed(self, before):
         pairs = zip(("misses", "denials"), self.counts(before), self.counts(self.script))
         told = "; ".join(f"{name} {old} -> {new}" for name, old, new in pairs if old != new)
         return f"  {told}\n" if told else ""
 
+    def bad(self, line):
+        """The answer to a bad line."""
+        text, hint = BAD[line]
+        return f"bad line: {text}\n" + (f"  hint: {hint}\n" if hint and not self.quiet else "")
+
     def sentence(self, reply):
         """The sentence behind a refusal, as `check --run` has it for the last record: it tells of all of them, the notes of 20."""
         if self.quiet or not reply.startswith("refused "):
             return ""
-        at, kind = self.script.count("\n"), " ".join(reply.split()[:3])
-        front = f"-:{at}: record {at}: {kind}: "
+        at = self.script.count("\n")
+        front = f"-:{at}:1: refused: "
         lines = self.told.text(self.script, "check", "--run").splitlines()
         return f"  {next(it for it in lines if it.startswith(front)).removeprefix(front)}\n"
 
@@ -105,8 +147,16 @@ class Plan:
 
     def show(self, name, *ends):
         words = [it for pair in zip(("--from", "--to"), ends) for it in pair]
-        text, fault, status = self.told.of(self.script, "run", "-f", name, *words)
-        return f"bad line: {fault}" if status else text
+        text, _, status = self.told.of(self.script, "run", "-f", name, *words)
+        return f"bad line: {self.outside(*map(int, ends))}\n" if status else text
+
+    def outside(self, first, end=None):
+        """Why a range is none of the slots stepped."""
+        count = len(self.rows(self.script))
+        if end is not None and first > end:
+            return f"F {first} is above T {end}"
+        letter, beyond = ("T", end) if end is not None and end > count else ("F", first)
+        return f"{letter} {beyond} is above {count}, the slots stepped"
 
     def why(self, slot):
         text, fault, status = self.told.of(self.script, "why", str(slot))
@@ -156,7 +206,8 @@ def turn(rng, plan):
     if kind < 0.95:
         slot = rng.randrange(8)
         return f"why {slot}", plan.why(slot)
-    return rng.choice(BAD), None
+    line = rng.choice(list(BAD))
+    return line, plan.bad(line)
 
 
 def shown(rng, plan):
@@ -215,9 +266,7 @@ class Session:
 
 
 def differs(wanted, given, line):
-    """What is wrong with an answer in text; of a bad line only its front is told here."""
-    if wanted is None:
-        return None if len(given) == 1 and given[0].startswith("bad line: ") else f"{line!r}: {given}, not a bad line"
+    """What is wrong with an answer in text."""
     return None if given == wanted.splitlines() else f"{line!r}: {given}, not {wanted.splitlines()}"
 
 
@@ -230,7 +279,7 @@ def differs_in_json(wanted, given, line):
     if json.dumps(told, separators=(",", ":"), sort_keys=True, ensure_ascii=False) != given[0]:
         return f"{line!r}: {given}: its keys are not in order, or it has blanks"
     word = line.split(",")[0].split()[0] if line.strip() else ""
-    if wanted is None or wanted.startswith("bad line: "):
+    if wanted.startswith("bad line: "):
         return None if "bad" in told else f"{line!r}: {told}, not a bad line"
     if wanted.startswith("event "):
         return None if told.get("event") == int(wanted.split()[1]) else f"{line!r}: {told}, not {wanted!r}"

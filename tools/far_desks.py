@@ -70,7 +70,7 @@ def answers(rng, plan):
         yield name, as_it_stands(plan, name)
     ends = str(SLOTS // 2), str(SLOTS // 2 + 5_000)
     yield " ".join(["windows", *ends]), as_it_stands(plan, "windows", *ends)
-    yield "html", "bad line: range too long\n"
+    yield "html", f"bad line: a page shows at most 65536 slots, and {SLOTS + MORE_SLOTS} are asked for\n"
 
 
 def far_session(rng, told, program):

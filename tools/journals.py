@@ -184,7 +184,7 @@ def in_use(program):
         first.write(b"step\n")
         step, end = first.line(), first.end()
         given = (ready, done.stdout, done.stderr.decode(), done.returncode, step, end, journal_in(Path(path))[0])
-    wanted = ("ready", b"", f"{path} is in use\n", 3, "slot 0: -", (b"", b"", 0), ["settings,1,2", "step"])
+    wanted = ("ready", b"", f"{path}: another session has it open\n", 3, "slot 0: -", (b"", b"", 0), ["settings,1,2", "step"])
     return None if given == wanted else f"a journal in use: {given}"
 
 
@@ -197,7 +197,7 @@ def locked(program):
             fcntl.flock(file, fcntl.LOCK_EX)
             done = run_to_end([program, "desk", "--journal", str(path)], "desk: a journal that is locked", input=b"step\n")
         given = (done.returncode, done.stdout, done.stderr.decode(), path.read_text())
-    return None if given == (3, b"", f"{path} is in use\n", AT_REST) else f"a journal that is locked: {given}"
+    return None if given == (3, b"", f"{path}: another session has it open\n", AT_REST) else f"a journal that is locked: {given}"
 
 
 def lost_at_rest(program, what, lose):
@@ -223,7 +223,7 @@ def side_file(program):
         Path(f"{path}-wal").mkdir()
         done = run_to_end([program, "desk", "--journal", str(path)], "desk: a file beside a journal", input=b"step\n")
     given = (done.returncode, done.stdout, done.stderr.decode())
-    return None if given == (3, b"", f"cannot read the journal\n{path}-wal: cannot be read\n") else f"a file beside a journal: {given}"
+    return None if given == (3, b"", f"{path}-wal: cannot be read\n") else f"a file beside a journal: {given}"
 
 
 # A journal of three records, as a session leaves it.
@@ -290,7 +290,7 @@ def lost_at_sync(program, library, nth):
                     session.write(f"{line}\n".encode())
                 answers.append(session.line())
             given = (sum(map(bool, answers)), session.end()[1:], files_in(path.parent).keys() & {"kept"})
-    fault = "cannot read the journal\n" if nth == 1 else f"cannot write {path}\n"
+    fault = f"{path}: cannot be read\n" if nth == 1 else f"cannot write {path}\n"
     wanted = (max(0, (nth - 4) // 2), (fault.encode(), 3), set())
     return None if given == wanted else f"a journal that is removed as sync {nth} ends: {given}"
 
@@ -314,13 +314,13 @@ def failing_file(program, library, nth):
             failed = was_refused()
         if not failed:
             return False, None if (faults, status, answers) == (b"", 1, 7) else f"no call fails: {faults!r}, {status}, {answers} answers"
-        read, written = b"cannot read the journal\n", f"cannot write {path}\n".encode()
+        told = {f"{it}\n".encode() for it in (f"{path}: cannot be read", f"{path}-wal: cannot be read", f"cannot write {path}")}
         found, rest = journal_in(path)
         cut = f"; cut {len(rest) - 1} bytes\n" if len(rest) > 1 and path.stat().st_size > 10 else ""
         again = run_to_end([program, "desk", "-q", "--journal", str(path)], "desk: opened again", input=b"")
         is_front = answers <= len(found) <= answers + 1 and found == journal_in(path)[0]
         is_open = again.returncode == 0 and (again.stderr.decode().endswith(cut) if cut else not again.stderr)
-        if status != 3 or faults not in (read, written) or not is_front or not is_open:
+        if status != 3 or faults not in told or not is_front or not is_open:
             return True, f"call {nth} of the file fails: {faults!r}, {status}, {answers} answers, {found}, opened again {again}"
         return True, None
 

@@ -206,6 +206,11 @@ def object_of(why, task):
             "ranking": [ranking_object(it) for it in why.ranking], "room": why.room(), "slot": why.slot}
 
 
+def stepped(count):
+    """Which slots were stepped, of so many."""
+    return "none was" if count == 0 else "slot 0 was" if count == 1 else f"slots 0 to {count - 1} were"
+
+
 def answer(script, asked, as_json):
     """What `pfair why` writes for the script, what it tells of a fault, and its status."""
     if not sentences.is_good(script):
@@ -216,7 +221,7 @@ def answer(script, asked, as_json):
         if task is None:
             return b"", f'"{asked.task}" names no task\n'.encode(), 2
     if asked.slot >= carried.desk.now:
-        return b"", f"slot not below {carried.desk.now} slots\n".encode(), 2
+        return b"", f"slot {asked.slot} was not stepped: {stepped(carried.desk.now)}\n".encode(), 2
     why = Why(carried, asked.slot)
     told = json.dumps(object_of(why, task), sort_keys=True, separators=(",", ":")) + "\n" if as_json else text(why, task)
     return told.encode(), b"", 0

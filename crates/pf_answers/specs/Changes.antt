@@ -10,6 +10,8 @@ use Rattle.pf_report.specs.Replies.{reply_line}
 use Rattle.pf_answers.specs.Keys.{changed_key, misses_key}
 use Rattle.pf_answers.specs.declared.counts.Counts.{Counts}
 use Rattle.pf_answers.specs.declared.manner.Manner.{Manner}
+use Rattle.pf_answers.specs.declared.slots.SlotsChanged.{SlotsChanged}
+use Rattle.pf_answers.specs.declared.slots.SlotsChanged.TheVariants.{Untouched, Same, Between}
 
 -- how many lines the tables of missed windows and of denials have
 abbrev pub counts_of : State → Counts
@@ -45,12 +47,25 @@ pairs before after =
 abbrev pub changed_member : Counts → Counts → List ℕ
 changed_member before after = if are_same before after then [] else pairs before after
 
-abbrev pub made_json : ℕ → Counts → Counts → List ℕ
-made_json id before after =
-    codes "{" ++ (changed_member before after ++ (codes "\"event\":" ++ (decimal id ++ codes "}\n")))
+-- which slots are not as before, where the change touches one that was stepped
+abbrev pub slots_line : SlotsChanged → List ℕ
+slots_line Untouched = []
+slots_line Same = codes "  no slot changed\n"
+slots_line (Between first last) =
+    if first == last then codes "  slot " ++ (decimal first ++ codes " changed\n")
+    else codes "  slots " ++ (decimal first ++ (codes " to " ++ decimal last)) ++ codes " changed\n"
+
+abbrev pub slots_member : SlotsChanged → List ℕ
+slots_member Untouched = []
+slots_member Same = codes ",\"slots\":null"
+slots_member (Between first last) = pair (codes ",\"slots\":[") first last
+
+abbrev pub made_json : ℕ → SlotsChanged → Counts → Counts → List ℕ
+made_json id slots before after =
+    codes "{" ++ (changed_member before after ++ (codes "\"event\":" ++ (decimal id ++ (slots_member slots ++ codes "}\n"))))
 
 -- the change of the event of this number was made; so many lines there were before, and are now
-abbrev pub made_text : Manner → ℕ → Counts → Counts → List ℕ
-made_text manner id before after =
-    if manner.json then made_json id before after
-    else reply_line (Edited id) ++ (if manner.quiet then [] else changed_line before after)
+abbrev pub made_text : Manner → ℕ → SlotsChanged → Counts → Counts → List ℕ
+made_text manner id slots before after =
+    if manner.json then made_json id slots before after
+    else reply_line (Edited id) ++ (if manner.quiet then [] else slots_line slots ++ changed_line before after)

@@ -1,13 +1,14 @@
 ghost use Rattle.std.specs.Prelude.{◌≡◌, ◌==◌, ◌++◌, [], if◌then◌else◌, codes, OnOk};
 ghost use Rattle.pf_desk.specs.declared.reply.Reply.TheVariants.{Edited};
 ghost use Rattle.pf_report.specs.Replies.{reply_line};
-ghost use Rattle.pf_answers.specs.Changes.{are_same, changed_line, changed_member, difference, made_json, made_text, pair, pairs};
+ghost use Rattle.pf_answers.specs.Changes.{are_same, changed_line, changed_member, difference, made_json, made_text, pair, pairs, slots_line, slots_member};
 
 use crate::counts::Counts;
 use crate::keys::{changed_key, misses_key};
 use crate::manner::Manner;
+use crate::slots::SlotsChanged;
 use pf_desk::reply_view::ReplyView;
-use pf_notes::words::{push_two, push_word};
+use pf_notes::words::{push_between, push_two, push_word};
 use pf_report::reply::push_reply;
 use std::alloc::AllocError;
 
@@ -42,6 +43,36 @@ fn push_line(text: &mut Vec<u8>, before: Counts, after: Counts) -> Result<(), Al
     }
     push_difference(text, b"  denials ", before.denials, after.denials)?;
     text.extend_from_slice(b"\n")
+}
+
+/// Appends which slots are not as before.
+fn push_slots(text: &mut Vec<u8>, slots: SlotsChanged) -> Result<(), AllocError>
+    ensures { OnOk result (text.new.items ≡ text.old.items ++ slots_line slots) }
+{
+    match slots {
+        SlotsChanged::Untouched => Ok(()),
+        SlotsChanged::Same => text.extend_from_slice(b"  no slot changed\n"),
+        SlotsChanged::Between { first, last } if first == last => {
+            push_between(text, b"  slot ", first, b" changed\n")
+        }
+        SlotsChanged::Between { first, last } => {
+            push_two(text, b"  slots ", first, b" to ", last)?;
+            text.extend_from_slice(b" changed\n")
+        }
+    }
+}
+
+/// Appends what is not as before, each as a line.
+fn push_lines(
+    text: &mut Vec<u8>,
+    slots: SlotsChanged,
+    before: Counts,
+    after: Counts,
+) -> Result<(), AllocError>
+    ensures { OnOk result (text.new.items ≡ text.old.items ++ (slots_line slots ++ changed_line before after)) }
+{
+    push_slots(text, slots)?;
+    push_line(text, before, after)
 }
 
 /// Appends two numbers and the end of their list.
@@ -79,18 +110,36 @@ fn push_member(text: &mut Vec<u8>, before: Counts, after: Counts) -> Result<(), 
     push_pairs(text, before, after)
 }
 
+/// Appends which slots are not as before, as a member.
+fn push_slots_member(text: &mut Vec<u8>, slots: SlotsChanged) -> Result<(), AllocError>
+    ensures { OnOk result (text.new.items ≡ text.old.items ++ slots_member slots) }
+{
+    match slots {
+        SlotsChanged::Untouched => Ok(()),
+        SlotsChanged::Same => text.extend_from_slice(b",\"slots\":null"),
+        SlotsChanged::Between { first, last } => push_pair(text, b",\"slots\":[", first, last),
+    }
+}
+
 /// Appends the answer as an object.
-fn push_json(text: &mut Vec<u8>, id: u64, before: Counts, after: Counts) -> Result<(), AllocError>
-    ensures { OnOk result (text.new.items ≡ text.old.items ++ made_json id before after) }
+fn push_json(
+    text: &mut Vec<u8>,
+    id: u64,
+    slots: SlotsChanged,
+    before: Counts,
+    after: Counts,
+) -> Result<(), AllocError>
+    ensures { OnOk result (text.new.items ≡ text.old.items ++ made_json id slots before after) }
 {
     text.extend_from_slice(b"{")?;
     push_member(text, before, after)?;
     push_word(text, b"\"event\":", id)?;
+    push_slots_member(text, slots)?;
     text.extend_from_slice(b"}\n")
 }
 
-/// Appends the answer to a change that was made: the number of its event, and where one differs, how many lines the tables of missed
-/// windows and of denials had before and have now.
+/// Appends the answer to a change that was made: the number of its event, which slots are not as before, where it touches one that was
+/// stepped, and where one differs, how many lines the tables of missed windows and of denials had before and have now.
 ///
 /// # Errors
 ///
@@ -99,17 +148,18 @@ pub fn push_made(
     text: &mut Vec<u8>,
     manner: Manner,
     id: u64,
+    slots: SlotsChanged,
     before: Counts,
     after: Counts,
 ) -> Result<(), AllocError>
-    ensures { OnOk result (text.new.items ≡ text.old.items ++ made_text manner id before after) }
+    ensures { OnOk result (text.new.items ≡ text.old.items ++ made_text manner id slots before after) }
 {
     if manner.json {
-        return push_json(text, id, before, after);
+        return push_json(text, id, slots, before, after);
     }
     push_reply(text, ReplyView::Edited { id })?;
     if manner.quiet {
         return Ok(());
     }
-    push_line(text, before, after)
+    push_lines(text, slots, before, after)
 }

@@ -11,5 +11,6 @@ pub mod manner;
 mod quoted;
 pub mod refused;
 pub mod shown;
+pub mod slots;
 pub mod steps;
 pub mod telling;

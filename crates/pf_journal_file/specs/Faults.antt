@@ -1,6 +1,5 @@
 -- What is told where a file keeps no session's records.
-use Rattle.std.specs.Prelude.{⊤, ℕ, ◌≡◌, Bool, true, List, [], ◌++◌, Result, Ok, Err, codes}
-use Rattle.std.specs.Fmt.{decimal}
+use Rattle.std.specs.Prelude.{⊤, ℕ, ◌≡◌, Bool, if◌then◌else◌, List, [], ◌++◌, Result, Ok, Err, codes}
 use Rattle.std.specs.IoError.{error_kind}
 use Rattle.std.specs.declared.io.ErrorKind.{ErrorKind}
 use Rattle.std.specs.declared.io.ErrorKind.TheVariants as kind
@@ -9,6 +8,8 @@ use Rattle.pf_vocabulary.specs.declared.fault.fault.Fault.{Fault}
 use Rattle.pf_vocabulary.specs.declared.fault.fault.Fault.TheVariants as why
 use Rattle.pf_vocabulary.specs.declared.fault.status.Status.{Status}
 use Rattle.pf_vocabulary.specs.declared.fault.status.Status.TheVariants as status
+use Rattle.pf_message.specs.Form.{file_front, hint_line, position_front}
+use Rattle.pf_message.specs.Shell.{shell_word}
 use Rattle.pf_script.specs.FaultNotes.FileFaults.{file_fault_line, file_fault_of}
 use Rattle.pf_journal.specs.Kept.{IsUnread}
 use Rattle.pf_journal.specs.declared.journal_error.JournalError.{JournalError}
@@ -72,46 +73,39 @@ status_of LongRecord = status.BadScript
 status_of Unwritten = status.StreamFailed
 status_of NoMemory = status.NoMemory
 
--- the name of a file between two texts
-abbrev pub named_line : List ℕ → List ℕ → List ℕ → List ℕ
-named_line before file behind = before ++ (file_text file ++ behind)
-
--- a number between two texts
-abbrev pub numbered_text : List ℕ → ℕ → List ℕ → List ℕ
-numbered_text before number behind = before ++ (decimal number ++ behind)
-
-abbrev pub fault_text : List ℕ → JournalFault → List ℕ
-fault_text file InUse = named_line [] file (codes " is in use\n")
-fault_text file (Unread kind) = codes "cannot read the journal\n"
-fault_text file (UnreadBeside kind) = codes "cannot read the journal\n"
-fault_text file NoHeading = codes "bad record 1\n"
-fault_text file (Damaged line) = numbered_text (codes "bad record ") line (codes "\n")
-fault_text file HasRecords = codes "the journal has records already\n"
-fault_text file LongRecord = codes "a record has more than 65536 bytes\n"
-fault_text file Unwritten = named_line (codes "cannot write ") file (codes "\n")
-fault_text file NoMemory = codes "out of memory\n"
-
-abbrev pub no_heading_line : List ℕ → List ℕ
-no_heading_line file = named_line [] file (codes ":1: record 1: a journal begins with \" plan,1\"\n")
-
-abbrev pub damaged_line : List ℕ → ℕ → List ℕ
-damaged_line file line =
-    file_text file ++ (numbered_text (codes ":") line []
-    ++ numbered_text (codes ": record ") line (codes ": its line is damaged: a blank begins it, and a line end ends it\n"))
-
 -- the name of the file beside a journal, which is made as it is opened
 abbrev pub beside : List ℕ → List ℕ
 beside file = file ++ codes "-wal"
 
--- after it, where notes are told: why the file or the one beside it can't be read, what a journal begins with, or what a line of one has
-abbrev pub note_behind : List ℕ → Bool → JournalFault → List ℕ
-note_behind file true (Unread kind) = file_fault_line file (file_fault_of kind)
-note_behind file true (UnreadBeside kind) = file_fault_line (beside file) (file_fault_of kind)
-note_behind file true NoHeading = no_heading_line file
-note_behind file true (Damaged line) = damaged_line file line
-note_behind file notes fault = []
+abbrev pub unwritten_line : List ℕ → List ℕ
+unwritten_line file = codes "cannot write " ++ (file_text file ++ codes "\n")
+
+-- what is told of it, a line
+abbrev pub fault_text : List ℕ → JournalFault → List ℕ
+fault_text file InUse = file_front file ++ codes "another session has it open\n"
+fault_text file (Unread kind) = file_fault_line file (file_fault_of kind)
+fault_text file (UnreadBeside kind) = file_fault_line (beside file) (file_fault_of kind)
+fault_text file NoHeading = position_front file (record { line = 1; column = 1 }) ++ codes "it is no journal\n"
+fault_text file (Damaged line) =
+    position_front file (record { line = line; column = 1 }) ++ codes "its line is damaged: a blank begins it, and a line end ends it\n"
+fault_text file HasRecords = file_front file ++ codes "it has records already\n"
+fault_text file LongRecord = codes "a record has more than 65536 bytes\n"
+fault_text file Unwritten = unwritten_line file
+fault_text file NoMemory = codes "out of memory\n"
+
+-- what would be right, where something can be said
+abbrev pub desk_hint : List ℕ → List ℕ
+desk_hint file = codes "pfair desk " ++ (shell_word file ++ codes " begins with its records")
+
+abbrev pub fault_hint : List ℕ → JournalFault → List ℕ
+fault_hint file NoHeading = hint_line (desk_hint file)
+fault_hint file HasRecords = hint_line (codes "without SCRIPT the session goes on with them")
+fault_hint file fault = []
+
+abbrev pub hint_behind : List ℕ → Bool → JournalFault → List ℕ
+hint_behind file hints fault = if hints then fault_hint file fault else []
 
 -- a session ends so, with its status and its text; memory may be refused for the text, too
 abbrev pub IsOutcome : List ℕ → Bool → JournalFault → Result Ending Fault → Type 0
-IsOutcome file notes fault (Err other) = other ≡ why.NoMemory
-IsOutcome file notes fault (Ok ending) = (ending.status ≡ status_of fault) × (ending.notes.items ≡ fault_text file fault ++ note_behind file notes fault)
+IsOutcome file hints fault (Err other) = other ≡ why.NoMemory
+IsOutcome file hints fault (Ok ending) = (ending.status ≡ status_of fault) × (ending.notes.items ≡ fault_text file fault ++ hint_behind file hints fault)

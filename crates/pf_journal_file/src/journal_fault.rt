@@ -1,12 +1,15 @@
 ghost use Rattle.std.specs.Prelude.{◌≡◌, ◌++◌, IfOk, OnOk};
+ghost use Rattle.pf_message.specs.Form.{file_front, hint_line, position_front};
 ghost use Rattle.pf_script.specs.FaultNotes.FileFaults.{file_fault_line, file_fault_of};
-ghost use Rattle.pf_journal_file.specs.Faults.{IsOutcome, IsUnhad, beside, damaged_line, fault_of_adding, fault_of_kind, fault_of_opening, fault_of_reading, fault_text, named_line, no_heading_line, note_behind, numbered_text, status_of};
+ghost use Rattle.pf_journal_file.specs.Faults.{IsOutcome, IsUnhad, beside, desk_hint, fault_hint, fault_of_adding, fault_of_kind, fault_of_opening, fault_of_reading, fault_text, hint_behind, status_of, unwritten_line};
 
 use crate::journals::OpenFault;
 use pf_journal::journal_error::JournalError;
+use pf_message::form::{push_file_front, push_hint, push_position_front};
+use pf_message::position::Position;
+use pf_message::shell::push_shell_word;
 use pf_script::fault_notes::file_fault::{FileFault, file_fault_line};
 use pf_text::file_name::push_file;
-use pf_text::numbers::push_number;
 use pf_vocabulary::fault::ending::Ending;
 use pf_vocabulary::fault::fault::Fault;
 use pf_vocabulary::fault::status::Status;
@@ -104,16 +107,16 @@ impl JournalFault {
         }
     }
 
-    /// What a session with a journal of this name ends with for it, and what is told of that; with `notes` also why a file, or the one beside it, can't be
-    /// read, what a journal begins with, or what a line of one has.
+    /// What a session with a journal of this name ends with for it, and what is told of that: what is wrong with the file, and with
+    /// `hints` what would be right.
     ///
     /// # Errors
     ///
     /// `NoMemory` where memory is refused for the text.
-    pub fn outcome(self, alloc: Global, file: &[u8], notes: bool) -> Result<Ending, Fault>
-        ensures { IsOutcome file.now notes self result }
+    pub fn outcome(self, alloc: Global, file: &[u8], hints: bool) -> Result<Ending, Fault>
+        ensures { IsOutcome file.now hints self result }
     {
-        match self.text(alloc, file, notes) {
+        match self.text(alloc, file, hints) {
             Ok(text) => Ok(Ending {
                 status: self.status(),
                 notes: text,
@@ -123,118 +126,112 @@ impl JournalFault {
     }
 
     /// What is told of it.
-    fn text(self, alloc: Global, file: &[u8], notes: bool) -> Result<Vec<u8>, AllocError>
-        ensures { IfOk result (λ text. text.items ≡ fault_text file.now self ++ note_behind file.now notes self) }
+    fn text(self, alloc: Global, file: &[u8], hints: bool) -> Result<Vec<u8>, AllocError>
+        ensures { IfOk result (λ text. text.items ≡ fault_text file.now self ++ hint_behind file.now hints self) }
     {
         let mut text = Vec::new(alloc);
-        self.push_text(&mut text, file)?;
-        text.extend_from_slice(&self.note(alloc, file, notes)?)?;
+        self.push_text(alloc, &mut text, file)?;
+        if hints {
+            self.push_hint(alloc, &mut text, file)?;
+        }
         Ok(text)
     }
 
     /// Appends its line.
-    fn push_text(self, text: &mut Vec<u8>, file: &[u8]) -> Result<(), AllocError>
+    fn push_text(self, alloc: Global, text: &mut Vec<u8>, file: &[u8]) -> Result<(), AllocError>
         ensures { OnOk result (text.new.items ≡ text.old.items ++ fault_text file.now self) }
     {
         match self {
-            JournalFault::InUse => push_named(text, b"", file, b" is in use\n"),
-            JournalFault::Unread(_) | JournalFault::UnreadBeside(_) => {
-                text.extend_from_slice(b"cannot read the journal\n")
-            }
-            JournalFault::NoHeading => text.extend_from_slice(b"bad record 1\n"),
-            JournalFault::Damaged(record) => push_numbered(text, b"bad record ", record, b"\n"),
-            JournalFault::HasRecords => {
-                text.extend_from_slice(b"the journal has records already\n")
-            }
+            JournalFault::InUse => push_of_file(text, file, b"another session has it open\n"),
+            JournalFault::Unread(kind) => push_unread(alloc, text, file, kind),
+            JournalFault::UnreadBeside(kind) => push_unread_beside(alloc, text, file, kind),
+            JournalFault::NoHeading => push_of_line(text, file, 1, b"it is no journal\n"),
+            JournalFault::Damaged(record) => push_of_line(
+                text,
+                file,
+                record as u64,
+                b"its line is damaged: a blank begins it, and a line end ends it\n",
+            ),
+            JournalFault::HasRecords => push_of_file(text, file, b"it has records already\n"),
             JournalFault::LongRecord => {
                 text.extend_from_slice(b"a record has more than 65536 bytes\n")
             }
-            JournalFault::Unwritten => push_named(text, b"cannot write ", file, b"\n"),
+            JournalFault::Unwritten => push_unwritten(text, file),
             JournalFault::NoMemory => text.extend_from_slice(b"out of memory\n"),
         }
     }
 
-    /// Why the file or the one beside it can't be read, what a journal begins with, or what a line of one has, where that is asked for.
-    fn note(self, alloc: Global, file: &[u8], notes: bool) -> Result<Vec<u8>, AllocError>
-        ensures { IfOk result (λ note. note.items ≡ note_behind file.now notes self) }
+    /// Appends the line of what would be right, where something can be said.
+    fn push_hint(self, alloc: Global, text: &mut Vec<u8>, file: &[u8]) -> Result<(), AllocError>
+        ensures { OnOk result (text.new.items ≡ text.old.items ++ fault_hint file.now self) }
     {
         match self {
-            JournalFault::Unread(kind) if notes => file_fault_line(
-                alloc,
-                file,
-                FileFault::of(kind),
-            ),
-            JournalFault::UnreadBeside(kind) if notes => beside_note(alloc, file, kind),
-            JournalFault::NoHeading if notes => no_heading_note(alloc, file),
-            JournalFault::Damaged(record) if notes => damaged_note(alloc, file, record),
-            _ => Ok(Vec::new(alloc)),
+            JournalFault::NoHeading => push_desk_hint(alloc, text, file),
+            JournalFault::HasRecords => {
+                push_hint(text, b"without SCRIPT the session goes on with them")
+            }
+            _ => Ok(()),
         }
     }
 }
 
-/// Why the file beside a journal can't be made or opened.
-fn beside_note(alloc: Global, file: &[u8], kind: ErrorKind) -> Result<Vec<u8>, AllocError>
-    ensures { IfOk result (λ note. note.items ≡ file_fault_line (beside file.now) (file_fault_of kind)) }
+/// Appends what is told of a file, a text with its line end.
+fn push_of_file(text: &mut Vec<u8>, file: &[u8], what: &[u8]) -> Result<(), AllocError>
+    ensures { OnOk result (text.new.items ≡ text.old.items ++ (file_front file.now ++ what.now)) }
+{
+    push_file_front(text, file)?;
+    text.extend_from_slice(what)
+}
+
+/// Appends what is told of a line of a file, a text with its line end.
+fn push_of_line(text: &mut Vec<u8>, file: &[u8], line: u64, what: &[u8]) -> Result<(), AllocError>
+    ensures { OnOk result (text.new.items ≡ text.old.items ++ (position_front file.now (record { line = line; column = 1 }) ++ what.now)) }
+{
+    push_position_front(text, file, Position { line, column: 1 })?;
+    text.extend_from_slice(what)
+}
+
+/// Appends why a file can't be read.
+fn push_unread(
+    alloc: Global,
+    text: &mut Vec<u8>,
+    file: &[u8],
+    kind: ErrorKind,
+) -> Result<(), AllocError>
+    ensures { OnOk result (text.new.items ≡ text.old.items ++ file_fault_line file.now (file_fault_of kind)) }
+{
+    text.extend_from_slice(&file_fault_line(alloc, file, FileFault::of(kind))?)
+}
+
+/// Appends why the file beside a journal can't be made or opened.
+fn push_unread_beside(
+    alloc: Global,
+    text: &mut Vec<u8>,
+    file: &[u8],
+    kind: ErrorKind,
+) -> Result<(), AllocError>
+    ensures { OnOk result (text.new.items ≡ text.old.items ++ file_fault_line (beside file.now) (file_fault_of kind)) }
 {
     let mut name = Vec::from_slice(alloc, file)?;
     name.extend_from_slice(b"-wal")?;
-    file_fault_line(alloc, &name, FileFault::of(kind))
+    push_unread(alloc, text, &name, kind)
 }
 
-/// What a journal begins with, which this file does not.
-fn no_heading_note(alloc: Global, file: &[u8]) -> Result<Vec<u8>, AllocError>
-    ensures { IfOk result (λ note. note.items ≡ no_heading_line file.now) }
+/// Appends that a file can't be written.
+fn push_unwritten(text: &mut Vec<u8>, file: &[u8]) -> Result<(), AllocError>
+    ensures { OnOk result (text.new.items ≡ text.old.items ++ unwritten_line file.now) }
 {
-    let mut text = Vec::new(alloc);
-    push_named(
-        &mut text,
-        b"",
-        file,
-        b":1: record 1: a journal begins with \" plan,1\"\n",
-    )?;
-    Ok(text)
-}
-
-/// What the line of a record has, which the one of this number doesn't.
-fn damaged_note(alloc: Global, file: &[u8], line: usize) -> Result<Vec<u8>, AllocError>
-    ensures { IfOk result (λ note. note.items ≡ damaged_line file.now line) }
-{
-    let mut text = Vec::new(alloc);
-    push_file(&mut text, file)?;
-    push_numbered(&mut text, b":", line, b"")?;
-    push_numbered(
-        &mut text,
-        b": record ",
-        line,
-        b": its line is damaged: a blank begins it, and a line end ends it\n",
-    )?;
-    Ok(text)
-}
-
-/// Appends a number between two texts.
-fn push_numbered(
-    text: &mut Vec<u8>,
-    before: &[u8],
-    number: usize,
-    behind: &[u8],
-) -> Result<(), AllocError>
-    ensures { OnOk result (text.new.items ≡ text.old.items ++ numbered_text before.now number behind.now) }
-{
-    text.extend_from_slice(before)?;
-    push_number(text, number as u64)?;
-    text.extend_from_slice(behind)
-}
-
-/// Appends the name of a file between two texts.
-fn push_named(
-    text: &mut Vec<u8>,
-    before: &[u8],
-    file: &[u8],
-    behind: &[u8],
-) -> Result<(), AllocError>
-    ensures { OnOk result (text.new.items ≡ text.old.items ++ named_line before.now file.now behind.now) }
-{
-    text.extend_from_slice(before)?;
+    text.extend_from_slice(b"cannot write ")?;
     push_file(text, file)?;
-    text.extend_from_slice(behind)
+    text.extend_from_slice(b"\n")
+}
+
+/// Appends the hint that a session may begin with a file's records.
+fn push_desk_hint(alloc: Global, text: &mut Vec<u8>, file: &[u8]) -> Result<(), AllocError>
+    ensures { OnOk result (text.new.items ≡ text.old.items ++ hint_line (desk_hint file.now)) }
+{
+    let mut hint = Vec::from_slice(alloc, b"pfair desk ")?;
+    push_shell_word(&mut hint, file)?;
+    hint.extend_from_slice(b" begins with its records")?;
+    push_hint(text, &hint)
 }

@@ -1,3 +1,5 @@
+pub mod Alike
+pub mod Edited
 pub mod Few
 pub mod Held
 pub mod Steps

@@ -3,6 +3,7 @@ use Rattle.std.specs.Prelude.{ℕ, Bool, false, replicate, Option, None, Some, L
 use Rattle.std.specs.List.{flat_map}
 use Rattle.pf_answers.specs.Changes.{counts_of, made_text}
 use Rattle.pf_answers.specs.Refused.{refused_text}
+use Rattle.pf_answers.specs.SlotsChanged.{slots_changed}
 use Rattle.pf_answers.specs.Steps.{refused_of, replies_from, step_text, steps_end, steps_front}
 use Rattle.pf_answers.specs.Telling.{ready_text, taken_text, told_text}
 use Rattle.pf_answers.specs.declared.manner.Manner.{Manner}
@@ -26,7 +27,7 @@ use Rattle.pf_session.specs.declared.made.Made.{Made}
 -- to a change in a state, which the desk machine answers so
 abbrev pub reply_answer : Manner → List Named → State → Change → Reply → List ℕ
 reply_answer m names st change (Edited id) =
-    made_text m id (counts_of st) (counts_of (record st { plan = plan_after st.plan change }))
+    made_text m id (slots_changed st change) (counts_of st) (counts_of (record st { plan = plan_after st.plan change }))
 reply_answer m names st change (Refused fault) =
     refused_text m fault (refusal_text (name_of_change names change) st.plan change fault)
 reply_answer m names st change (Stepped slot row) = []

@@ -1,10 +1,13 @@
-ghost use Rattle.std.specs.Prelude.{◌≡◌, ◌++◌, IfOk, IfSome, OnOk};
+ghost use Rattle.std.specs.Prelude.{◌≡◌, ◌++◌, None, IfOk, IfSome, OnOk};
 ghost use Rattle.std.specs.Option.{option_map};
 ghost use Rattle.pf_answers.specs.Changes.{counts_of, made_text};
 ghost use Rattle.pf_answers.specs.Refused.{refused_text};
+ghost use Rattle.pf_answers.specs.SlotsChanged.{slots_changed};
 ghost use Rattle.pf_desk.specs.Desk.{MakesReady};
 ghost use Rattle.pf_desk.specs.declared.command.Command.TheVariants as command;
 ghost use Rattle.pf_notes.specs.Refusal.{refusal_text};
+ghost use Rattle.pf_scenario.specs.Edit.{edit_fault};
+ghost use Rattle.pf_scenario.specs.Scenario.{plan_after};
 ghost use Rattle.pf_script_results.specs.Recount.{name_of_change, task_of_change};
 ghost use Rattle.pf_session.specs.Answers.{edit_answer};
 
@@ -13,6 +16,8 @@ use pf_answers::changes::push_made;
 use pf_answers::counts::Counts;
 use pf_answers::manner::Manner;
 use pf_answers::refused::push_refused;
+use pf_answers::slots::{SlotsChanged, slots_changed};
+use pf_desk::desk::Desk;
 use pf_desk::prepared::Prepared;
 use pf_desk::reply::{Fault, Reply};
 use pf_desk::snapshot::Snapshot;
@@ -74,15 +79,32 @@ fn refused_answer(
     Ok(answer)
 }
 
+/// What a change that was made did to the rows of the slots stepped.
+#[tactic(auto, using(crate::proofs::Alike::slots_alike, crate::proofs::Alike::slots_are))]
+fn slots_of(desk: &Desk, snapshot: &Snapshot, change: Change) -> SlotsChanged
+    requires made { snapshot.now.state ≡ record desk.now.state { plan = plan_after desk.now.state.plan change } }
+    requires faultless { edit_fault desk.now.state.plan change ≡ None }
+    ensures { result ≡ slots_changed desk.now.state change }
+{
+    let scenario = desk.scenario();
+    let processors = scenario.settings().processors();
+    let touched = scenario.first_slot(&change);
+    let now = snapshot.now();
+    slots_changed(processors, touched, desk.schedule(), snapshot.rows(), now)
+}
+
 /// The answer to a change that was made, of what was there and is there.
 fn made_answer(
     alloc: Global,
     manner: Manner,
     desk: &SessionDesk,
     snapshot: &Snapshot,
+    change: Change,
     id: u64,
 ) -> Result<EditAnswer, AllocError>
-    ensures text { IfOk result (λ a. a.text.items ≡ made_text manner id (counts_of desk.now.state) (counts_of snapshot.now.state)) }
+    requires made { snapshot.now.state ≡ record desk.now.state { plan = plan_after desk.now.state.plan change } }
+    requires faultless { edit_fault desk.now.state.plan change ≡ None }
+    ensures text { IfOk result (λ a. a.text.items ≡ made_text manner id (slots_changed desk.now.state change) (counts_of desk.now.state) (counts_of snapshot.now.state)) }
     ensures counts { IfOk result (λ a. IfSome a.counts (λ c. c ≡ counts_of snapshot.now.state)) }
 {
     let mut answer = Vec::new(alloc);
@@ -91,7 +113,7 @@ fn made_answer(
             misses: 0,
             denials: 0,
         };
-        push_made(&mut answer, manner, id, none, none)?;
+        push_made(&mut answer, manner, id, SlotsChanged::Untouched, none, none)?;
         return Ok(EditAnswer {
             text: answer,
             counts: None,
@@ -99,7 +121,8 @@ fn made_answer(
     }
     let before = desk.counts()?;
     let after = Counts::of_snapshot(snapshot)?;
-    push_made(&mut answer, manner, id, before, after)?;
+    let slots = slots_of(desk.as_desk(), snapshot, change);
+    push_made(&mut answer, manner, id, slots, before, after)?;
     Ok(EditAnswer {
         text: answer,
         counts: Some(after),
@@ -107,6 +130,7 @@ fn made_answer(
 }
 
 /// The answer to a change that was made ready.
+#[tactic(auto, using(crate::proofs::Edited::edited_faultless, crate::proofs::Edited::edited_state))]
 pub(crate) fn edit_answer(
     alloc: Global,
     manner: Manner,
@@ -122,7 +146,9 @@ pub(crate) fn edit_answer(
 {
     let _ = strict;
     match *prepared.reply() {
-        Reply::Edited { id } => made_answer(alloc, manner, desk, prepared.snapshot(), id),
+        Reply::Edited { id } => {
+            made_answer(alloc, manner, desk, prepared.snapshot(), change, id)
+        }
         Reply::Refused(fault) => {
             let scenario = desk.as_desk().scenario();
             let text = refused_answer(alloc, manner, names, scenario, change, fault)?;

@@ -173,7 +173,8 @@ impl Session {
         Ok(())
     }
 
-    /// Answers a bad line: the field at fault, 0 where there is none, and why.
+    /// Answers a bad line: the field at fault, 0 where there is none, why, and what would be right, nothing where nothing can be
+    /// said.
     ///
     /// # Errors
     ///
@@ -182,15 +183,16 @@ impl Session {
         &mut self,
         field: u64,
         words: &[u8],
+        hint: &[u8],
         text: &mut Vec<u8>,
     ) -> Result<(), AllocError>
         ensures session { OnOk result (self.new ≡ behind_bad self.old) }
-        ensures text { OnOk result (text.new.items ≡ text.old.items ++ bad_text self.old.manner.json field words.now) }
+        ensures text { OnOk result (text.new.items ≡ text.old.items ++ bad_text self.old.manner field words.now hint.now) }
         ensures err { OnErr result (self.new ≡ self.old) }
         ensures same { OnErr result (text.new.items ≡ text.old.items) }
     {
         let mut answer = Vec::new(self.alloc);
-        push_bad(&mut answer, self.manner.json, field, words)?;
+        push_bad(&mut answer, self.manner, field, words, hint)?;
         text.extend_from_slice(&answer)?;
         self.has_bad = true;
         Ok(())

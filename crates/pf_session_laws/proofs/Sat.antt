@@ -80,7 +80,7 @@ goes_end shows saves s v Undo a t w h = not_on h.0
 goes_end shows saves s v (Save file) a t w h = saves_end saves s v file h.0 a t w h.2
 goes_end shows saves s v Help a t w h = not_on h.0
 goes_end shows saves s v Quit a t w h = h.2
-goes_end shows saves s v (Bad field text) a t w h = not_on h.0
+goes_end shows saves s v (Bad field text hint) a t w h = not_on h.0
 
 answer_ends : (shows : Showings) (s : SessionState) (line text : List ℕ) (t : SessionState) → answers shows s line text Ends t → t ≡ s
 answer_ends shows s line text t (inl h) = goes_end shows (λ v file bytes is_saved w. Unit {0}) s tt (heard_of s line) text t tt h
@@ -101,7 +101,7 @@ goes_anyhow shows saves s v Undo g a t w h = h
 goes_anyhow shows saves s v (Save file) g a t w h = (h.0, tt, h.2)
 goes_anyhow shows saves s v Help g a t w h = h
 goes_anyhow shows saves s v Quit g a t w h = h
-goes_anyhow shows saves s v (Bad field text) g a t w h = h
+goes_anyhow shows saves s v (Bad field text hint) g a t w h = h
 
 answers_anyhow : (shows : Showings) (s : SessionState) (line text : List ℕ) (going : Going) (t : SessionState) → answers shows s line text going t
     → answers anything s line text going t

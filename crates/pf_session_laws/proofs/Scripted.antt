@@ -4,8 +4,8 @@ use Rattle.std.specs.Prelude.{⊤, ◌⊎◌, ◌&&◌, if◌then◌else◌, is_
 use Rattle.std.specs.Str.Lines.{strip_carriage_return}
 use Rattle.pf_desk.specs.Machine.{State}
 use Rattle.pf_session_lines.specs.Asked.{asked_at}
-use Rattle.pf_session_lines.specs.Faults.{too_long_text}
-use Rattle.pf_session_lines.specs.Heard.{heard, heard_fields, heard_heading, heard_if, heard_record, heard_word}
+use Rattle.pf_session_lines.specs.Faults.{escape_text, too_long_text}
+use Rattle.pf_session_lines.specs.Heard.{has_escape, heard, heard_fields, heard_if, heard_record, heard_row, heard_word, is_heading}
 use Rattle.pf_session_lines.specs.Lines.{fields_in, line_of}
 use Rattle.pf_session_lines.specs.Words.{word_at}
 use Rattle.pf_session_lines.specs.declared.showing.Showing.{Showing}
@@ -221,17 +221,17 @@ IsSaid p Undo = ⊤
 IsSaid p (Save file) = ⊤
 IsSaid p Help = ⊤
 IsSaid p Quit = ⊤
-IsSaid p (Bad field text) = ⊤
+IsSaid p (Bad field text hint) = ⊤
 
 either_said : (p : Progress) (first : Bool) (a b : Heard) → IsSaid p a → IsSaid p b → IsSaid p (if first then a else b)
 either_said p true a b is other = is
 either_said p false a b is other = other
 
-record_said : (p : Progress) (fields : List (List ℕ)) (said : Result Said RecordFault) → said_at p fields ≡ said → IsSaid p (heard_record fields said)
+record_said : (p : Progress) (fields : List (List ℕ)) (said : Result Said RecordFault) → said_at p fields ≡ said → IsSaid p (heard_record p fields said)
 record_said p fields (Ok said) e = (fields, e, refl)
 record_said p fields (Err fault) e = tt
 
-word_said : (p : Progress) (fields : List (List ℕ)) (asked : Result Asked LineFault) → IsSaid p (heard_word fields asked)
+word_said : (p : Progress) (fields : List (List ℕ)) (asked : Result Asked LineFault) → IsSaid p (heard_word p fields asked)
 word_said p fields (Ok (asks.Shown wanted)) = tt
 word_said p fields (Ok asks.Undo) = tt
 word_said p fields (Ok asks.Save) = tt
@@ -243,19 +243,17 @@ if_said : (p : Progress) (fields : List (List ℕ)) (word : Option Word) → IsS
 if_said p fields None = record_said p fields (said_at p fields) refl
 if_said p fields (Some word) = word_said p fields (asked_at p word fields)
 
-heading_said : (p : Progress) (fields : List (List ℕ)) (fault : Option RecordFault) → IsSaid p (heard_heading fields fault)
-heading_said p fields None = tt
-heading_said p fields (Some fault) = tt
+fields_said : (is_first : Bool) (p : Progress) (fields : List (List ℕ)) → IsSaid p (heard_fields is_first p fields)
+fields_said is_first p fields = either_said p (is_first && is_heading fields) Heading _ tt (if_said p fields (word_at fields))
 
-fields_said : (is_first : Bool) (p : Progress) (fields : Option (List (List ℕ))) → IsSaid p (heard_fields is_first p fields)
-fields_said is_first p None = tt
-fields_said is_first p (Some fields) =
-    either_said p (is_first && is_plan_heading fields) _ _ (heading_said p fields (heading_fault fields)) (if_said p fields (word_at fields))
+row_said : (is_first : Bool) (p : Progress) (line : List ℕ) (fields : Option (List (List ℕ))) → IsSaid p (heard_row is_first p line fields)
+row_said is_first p line None = tt
+row_said is_first p line (Some fields) = either_said p (has_escape line) (Bad 0 escape_text []) _ tt (fields_said is_first p fields)
 
 heard_said : (is_first : Bool) (p : Progress) (line : List ℕ) → IsSaid p (heard is_first p line)
 heard_said is_first p line =
     let text = strip_carriage_return line in
-    either_said p (nat_lt LONGEST_LINE (length text)) (Bad 0 too_long_text) _ tt (fields_said is_first p (fields_in text))
+    either_said p (nat_lt LONGEST_LINE (length text)) (Bad 0 too_long_text []) _ tt (row_said is_first p text (fields_in text))
 
 in_said : (s : SessionState) (line : Option (List ℕ)) → IsSaid s.course.progress (heard_in s line)
 in_said s None = tt
@@ -285,7 +283,7 @@ goes_next saves s is v Undo g a t w said h =
 goes_next saves s is v (Save file) g a t w said h = saves_next saves s is v file h.0 g a t w h.2
 goes_next saves s is v Help g a t w said h = stays s is t h.2
 goes_next saves s is v Quit g a t w said h = stays s is t h.2
-goes_next saves s is v (Bad field text) g a t w said h = same_next s is (behind_bad s) t h.2 (bad_next s is)
+goes_next saves s is v (Bad field text hint) g a t w said h = same_next s is (behind_bad s) t h.2 (bad_next s is)
 
 -- Use: after one line.
 pub answer_next : (s : SessionState) (is : IsScripted s) (line text : List ℕ) (going : Going) (t : SessionState) → answers anything s line text going t → IsNext s is t

@@ -1,6 +1,7 @@
 -- What a session shows of its own desk is what its script shows.
 use Rattle.std.proofs.Common.{◌≡◌, ◌∙◌, ◌+◌, ◌≤◌, ℕ, Bool, true, false, List, [], ◌∷◌, ◌++◌, length, map, Option, None, Some, Result, Ok, Err, codes, refl, sym, ap, subst, arith}
 use Rattle.std.proofs.Common.{inl, inr, rules, tests}
+use Rattle.std.specs.Option.{option_map_or}
 use Rattle.std.specs.Prelude.{⊤, ◌⊎◌, ◌&&◌, if◌then◌else◌, max, min, nat_lt, not}
 use Rattle.std.proofs.lemmas.Int.{clamps}
 use Rattle.pf_commands.specs.Answers.{Answers as Means}
@@ -191,9 +192,9 @@ meaning_is format titles origins script c short of_desk there =
 -- it is shown so
 module _ (format : Format) (titles : Titles) (origins : Option (List Origin)) (script : List ℕ) (bad : Option BadRecord) (m : Meaning)
     (means : script_meaning format titles origins script ≡ m) where
-  report_shown : (showing : Showing) → ShowsMeaning m showing
-      → (made : Result Answer Fault) × Answers (Report format) titles origins script made × IsShown bad made showing
-  report_shown (Text text) is =
+  report_shown : (n : ℕ) (showing : Showing) → ShowsMeaning format n m showing
+      → (made : Result Answer Fault) × Answers (Report format) titles origins script made × IsShown (Report format) n bad made showing
+  report_shown n (Text text) is =
       let ending : Ending = record { status = status.Done; notes = record text { len = 0; items = []; ok = (refl, omega arith) } } in (
         Ok (record { text = text; ending = ending }),
         (
@@ -202,7 +203,7 @@ module _ (format : Format) (titles : Titles) (origins : Option (List Origin)) (s
         ),
         refl,
       )
-  report_shown (Bad words) is = (
+  report_shown n (Bad words) is = (
     Err (why.BadRange is.0),
     (m.text, subst (λ (q : Meaning). Means {A = Ending} q (Err (why.BadRange is.0)) (Some []) (Some m.text)) (sym means) (is.1, refl)),
     is.2,
@@ -211,22 +212,22 @@ module _ (format : Format) (titles : Titles) (origins : Option (List Origin)) (s
 module _ (s : SessionState) (c : ScriptCourse) (p : Plain) (plan : plain s.script ≡ Some p) (titles : p.titles ≡ titles_of s.course.progress)
     (short : length (table_text p.records) ≤ longest_script) (there : outcome_told (told (table_text p.records)) ≡ Ok c) where
   by_plan : (w : Wanted) (showing : Showing)
-      → (made : Result Answer Fault) × Answers w (titles_of s.course.progress) (Some p.origins) (table_text p.records) made × IsShown p.bad made showing
-      → Shows w s.script showing
+      → (made : Result Answer Fault) × Answers w (titles_of s.course.progress) (Some p.origins) (table_text p.records) made × IsShown w c.state.now p.bad made showing
+      → Shows c.state.now w s.script showing
   by_plan w showing made =
-      subst (λ (q : Option Plain). ShowsOf q w s.script showing) (sym plan)
-      (subst (λ (t : Titles). ShowsShort p.bad t (Some p.origins) w (table_text p.records) showing) (sym titles)
+      subst (λ (q : Option Plain). ShowsOf c.state.now q w s.script showing) (sym plan)
+      (subst (λ (t : Titles). ShowsShort c.state.now p.bad t (Some p.origins) w (table_text p.records) showing) (sym titles)
       (record { short = λ h. made; long = λ h. absurd (omega (arith, short, h)) }))
 
   report_by : (b : Bool) (format : Format) (showing : Showing) → is_of_desk format ≡ b → ReportShows b c (titles_of s.course.progress) format s.script showing
-      → Shows (Report format) s.script showing
+      → Shows c.state.now (Report format) s.script showing
   report_by true format showing of_desk shown =
       by_plan (Report format) showing
       (report_shown format (titles_of s.course.progress) (Some p.origins) (table_text p.records) p.bad (report_meaning format (titles_of s.course.progress) [] c)
-      (meaning_is format (titles_of s.course.progress) (Some p.origins) (table_text p.records) c short of_desk there) showing shown)
+      (meaning_is format (titles_of s.course.progress) (Some p.origins) (table_text p.records) c short of_desk there) c.state.now showing shown)
   report_by false format showing of_desk shown = shown
 
-  desk_by : (w : Wanted) (showing : Showing) → DeskShows c (titles_of s.course.progress) w s.script showing → Shows w s.script showing
+  desk_by : (w : Wanted) (showing : Showing) → DeskShows c (titles_of s.course.progress) w s.script showing → Shows c.state.now w s.script showing
   desk_by (Report format) showing shown = report_by (is_of_desk format) format showing refl shown
   desk_by (Why question) showing shown = by_plan (Why question) showing (Ok shown.0, (c, there, shown.1), shown.2)
   desk_by Fit showing shown = shown
@@ -238,7 +239,7 @@ sessions_show retold w s showing session short shown = by s.held refl shown
     is : IsScripted s
     is = session_scripted s session
 
-    with_desk : (c : ScriptCourse) → s.held ≡ Some c → s.course.progress.opened ≡ true → DeskShows c (titles_of s.course.progress) w s.script showing → Shows w s.script showing
+    with_desk : (c : ScriptCourse) → s.held ≡ Some c → s.course.progress.opened ≡ true → DeskShows c (titles_of s.course.progress) w s.script showing → Shows c.state.now w s.script showing
     with_desk c held came shows =
         let found = script_plan s is came in
         desk_by s c found.0 found.1 found.2.titles (short found.0 found.1) (script_outcome retold s is c held found.0 found.1 found.2) w showing shows
@@ -250,6 +251,7 @@ sessions_show retold w s showing session short shown = by s.held refl shown
         some (inr came) = came
         some (inl none) = let never : None ≡ Some c = sym (no_desk is.rows s.course is.runs none) ∙ sym is.held ∙ held in cc
 
-    by : (h : Option ScriptCourse) → s.held ≡ h → HeldShows h (titles_of s.course.progress) w s.script showing → Shows w s.script showing
+    by : (h : Option ScriptCourse) → s.held ≡ h → HeldShows h (titles_of s.course.progress) w s.script showing
+        → Shows (option_map_or (λ c. c.state.now) h 0) w s.script showing
     by None held shows = shows
     by (Some c) held shows = with_desk c held (opened c held) shows

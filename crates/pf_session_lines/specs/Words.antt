@@ -1,5 +1,5 @@
 -- The words that are no records.
-use Rattle.std.specs.Prelude.{ℕ, ◌==◌, ◌&&◌, nat_lt, Bool, true, false, if◌then◌else◌, List, [], ◌∷◌, ◌++◌, length, Option, None, Some, codes}
+use Rattle.std.specs.Prelude.{ℕ, Bool, true, false, if◌then◌else◌, List, [], ◌∷◌, ◌++◌, Option, None, Some, codes}
 use Rattle.std.specs.List.{flat_map}
 use Rattle.pf_vocabulary.specs.Options.Formats.{format_named, has_replies}
 use Rattle.pf_vocabulary.specs.declared.options.format.Format.{Format}
@@ -9,28 +9,33 @@ use Rattle.pf_session_lines.specs.declared.word.Word.{Word}
 use Rattle.pf_session_lines.specs.declared.word.Word.TheVariants.{Shows, Why, Fit, Undo, Save, Help, Quit}
 
 -- all words, those of records first
-abbrev pub words_listed : List ℕ
-words_listed = codes "settings, slot, name, join, leave, delay, limit, label, alter, strike, strict, step, schedule, lags, misses, denials, events, script, processors, stats, chart, svg, windows, jobs, load, quanta, report, full, trace, html, c, why, fit, undo, save, help, quit"
+abbrev pub all_words : List (List ℕ)
+all_words =
+    codes "settings" ∷ codes "slot" ∷ codes "name" ∷ codes "join" ∷ codes "leave" ∷ codes "delay" ∷ codes "limit" ∷ codes "label" ∷ codes "alter"
+    ∷ codes "strike" ∷ codes "strict" ∷ codes "step" ∷ codes "why" ∷ codes "fit" ∷ codes "undo" ∷ codes "save" ∷ codes "help" ∷ codes "quit"
+    ∷ codes "schedule" ∷ codes "lags" ∷ codes "misses" ∷ codes "denials" ∷ codes "events" ∷ codes "script" ∷ codes "processors" ∷ codes "stats"
+    ∷ codes "chart" ∷ codes "svg" ∷ codes "windows" ∷ codes "jobs" ∷ codes "load" ∷ codes "quanta" ∷ codes "report" ∷ codes "full" ∷ codes "trace"
+    ∷ codes "html" ∷ codes "c" ∷ []
 
 -- the same, a line each
-abbrev pub behind_word : ℕ → List ℕ
-behind_word byte = if byte == 44 then codes "\n" else if byte == 32 then [] else byte ∷ []
+abbrev pub word_line : List ℕ → List ℕ
+word_line word = word ++ codes "\n"
 
 abbrev pub help_text : List ℕ
-help_text = flat_map behind_word words_listed ++ codes "\n"
+help_text = flat_map word_line all_words
 
 -- a format without replies is a word
 abbrev pub shows_format : Option Format → Option Word
 shows_format None = None
 shows_format (Some format) = if has_replies format then None else Some (Shows format)
 
--- the word that the first field is; `save` is one where something is to be saved to
+-- the word that the first field is
 unfoldable pub word_at : List (List ℕ) → Option Word
 word_at fields =
     if is_word fields 0 (codes "why") then Some Why
     else if is_word fields 0 (codes "fit") then Some Fit
     else if is_word fields 0 (codes "undo") then Some Undo
-    else if is_word fields 0 (codes "save") && nat_lt 1 (length fields) then Some Save
+    else if is_word fields 0 (codes "save") then Some Save
     else if is_word fields 0 (codes "help") then Some Help
     else if is_word fields 0 (codes "quit") then Some Quit
     else shows_format (format_named (field fields 0))
@@ -50,3 +55,20 @@ has_range (format.Windows all) = true
 has_range (format.Load all) = true
 has_range (format.Quanta all) = true
 has_range other = false
+
+-- what stands after a word in its form; in brackets what may be left out
+abbrev pub fields_after : Option Word → List ℕ
+fields_after (Some (Shows format)) = if has_range format then codes " [F [T]]" else []
+fields_after (Some Why) = codes " SLOT [TASK]"
+fields_after (Some Save) = codes " FILE"
+fields_after word = []
+
+-- the form of the word that stands in the first field
+abbrev pub form_of : List (List ℕ) → List ℕ
+form_of fields = field fields 0 ++ fields_after (word_at fields)
+
+-- the field that must stand after a word
+abbrev pub first_after : Option Word → List ℕ
+first_after (Some Why) = codes "SLOT"
+first_after (Some Save) = codes "FILE"
+first_after word = []

@@ -6,7 +6,6 @@ use crate::fault::{LineFault, LineReason, expect_length, fault_at};
 use crate::wanted::Wanted;
 use crate::word::{Word, has_range};
 use pf_script::fields::Fields;
-use pf_script::plan::fault::Reason;
 use pf_script::plan::state::Progress;
 use pf_vocabulary::names::name::{Name, is_letter_first};
 use pf_vocabulary::names::names::Names;
@@ -23,7 +22,7 @@ pub(crate) fn ask(progress: &Progress, word: Word, fields: &Fields) -> Result<As
     ensures { result ≡ asked_at progress.now word fields.now }
 {
     if !progress.opened && !word.is_early() {
-        return Err(fault_at(0, LineReason::OfRecord(Reason::NoSettings)));
+        return Err(fault_at(0, LineReason::NoSettings));
     }
     ask_word(&progress.names, word, fields)
 }
@@ -39,7 +38,7 @@ fn ask_word(names: &Names, word: Word, fields: &Fields) -> Result<Asked, LineFau
         Word::Fit => ask_alone(fields, Asked::Shown(Wanted::Fit)),
         Word::Undo => ask_alone(fields, Asked::Undo),
         Word::Save => {
-            expect_length(fields, 2, 2, LineReason::OfRecord(Reason::Fields(2)))?;
+            expect_length(fields, 2, 2)?;
             Ok(Asked::Save)
         }
         Word::Help => ask_alone(fields, Asked::Help),
@@ -51,7 +50,7 @@ fn ask_word(names: &Names, word: Word, fields: &Fields) -> Result<Asked, LineFau
 fn ask_alone(fields: &Fields, asked: Asked) -> Result<Asked, LineFault>
     ensures { result ≡ alone fields.now asked }
 {
-    expect_length(fields, 1, 1, LineReason::OneField)?;
+    expect_length(fields, 1, 1)?;
     Ok(asked)
 }
 
@@ -63,7 +62,7 @@ fn parse_number(fields: &Fields, place: usize) -> Result<u64, LineFault>
 {
     fields
         .number(place)
-        .ok_or(fault_at(place, LineReason::OfRecord(Reason::NoNumber)))
+        .ok_or(fault_at(place, LineReason::NoNumber))
 }
 
 /// F and T, or F alone, or neither.
@@ -90,7 +89,7 @@ fn parse_range(fields: &Fields) -> Result<SlotRange, LineFault>
 fn ask_ranged(format: Format, fields: &Fields) -> Result<Format, LineFault>
     ensures { result ≡ ranged_at format fields.now }
 {
-    expect_length(fields, 1, 3, LineReason::RangeFields)?;
+    expect_length(fields, 1, 3)?;
     let range = parse_range(fields)?;
     let whole = format;
     match format.within(range) {
@@ -107,7 +106,7 @@ fn ask_format(format: Format, fields: &Fields) -> Result<Format, LineFault>
     if has_range(&format) {
         return ask_ranged(format, fields);
     }
-    expect_length(fields, 1, 1, LineReason::OneField)?;
+    expect_length(fields, 1, 1)?;
     Ok(format)
 }
 
@@ -123,7 +122,7 @@ fn parse_named(names: &Names, fields: &Fields, place: usize) -> Result<TaskAsked
             return Ok(TaskAsked::Named(name));
         }
     }
-    Err(fault_at(place, LineReason::OfRecord(Reason::NoTask)))
+    Err(fault_at(place, LineReason::NoTask))
 }
 
 /// A task by its number.
@@ -135,10 +134,7 @@ fn parse_numbered(fields: &Fields, place: usize) -> Result<TaskAsked, LineFault>
     let number = parse_number(fields, place)?;
     if number == 0 || number > LARGEST_TASK {
         let most = LARGEST_TASK;
-        return Err(fault_at(
-            place,
-            LineReason::OfRecord(Reason::Outside { number, most }),
-        ));
+        return Err(fault_at(place, LineReason::Outside { number, most }));
     }
     Ok(TaskAsked::Number(number))
 }
@@ -172,7 +168,7 @@ fn parse_task_if(names: &Names, fields: &Fields) -> Result<Option<TaskAsked>, Li
 fn ask_question(names: &Names, fields: &Fields) -> Result<Question, LineFault>
     ensures { result ≡ question_at names.now fields.now }
 {
-    expect_length(fields, 2, 3, LineReason::WhyFields)?;
+    expect_length(fields, 2, 3)?;
     let slot = parse_number(fields, 1)?;
     let task = parse_task_if(names, fields)?;
     Ok(Question {

@@ -7,14 +7,27 @@ use pf_script::plan::fault::Reason;
 /// Why a line is bad.
 #[derive(Clone, Copy)]
 pub enum LineReason {
-    /// As a record would be.
+    /// As a record of a plan is.
     OfRecord(Reason),
-    /// One field is expected.
-    OneField,
-    /// A format may have a range after it.
-    RangeFields,
-    /// `why` has a slot after it, and perhaps a task.
-    WhyFields,
+    /// Its first field names no record, and is no word.
+    NoWord,
+    /// The settings are expected before this word.
+    NoSettings,
+    /// A field of the word is missing that stands in the first one.
+    Missing,
+    /// There is a field too much after that word.
+    TooMuch,
+    /// It is no number of 1 to 15 digits.
+    NoNumber,
+    /// It is not within 1 to `most`.
+    Outside {
+        /// The number that stands there.
+        number: u64,
+        /// The greatest one that may.
+        most: u64,
+    },
+    /// It names no task so far.
+    NoTask,
 }
 
 /// What is wrong with a line.
@@ -37,22 +50,17 @@ pub(crate) fn fault_at(place: usize, reason: LineReason) -> LineFault
     }
 }
 
-/// Where so many fields are expected, least to most.
-pub(crate) fn expect_length(
-    fields: &Fields,
-    least: usize,
-    most: usize,
-    reason: LineReason,
-) -> Result<(), LineFault>
+/// Where a word has so many fields with itself, least to most.
+pub(crate) fn expect_length(fields: &Fields, least: usize, most: usize) -> Result<(), LineFault>
     requires { (least ≤ 3) × (most ≤ 3) }
-    ensures { result ≡ of_length fields.now least most reason }
+    ensures { result ≡ of_length fields.now least most }
 {
     let length = fields.len();
     if length < least {
-        return Err(fault_at(length, reason));
+        return Err(fault_at(length, LineReason::Missing));
     }
     if length > most {
-        return Err(fault_at(most, reason));
+        return Err(fault_at(most, LineReason::TooMuch));
     }
     Ok(())
 }

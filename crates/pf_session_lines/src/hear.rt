@@ -1,18 +1,20 @@
-ghost use Rattle.std.specs.Prelude.{◌≡◌, Some, IfOk, codes};
+ghost use Rattle.std.specs.Prelude.{◌≡◌, [], IfOk, codes};
 ghost use Rattle.std.specs.Str.Lines.{strip_carriage_return};
-ghost use Rattle.pf_session_lines.specs.Heard.{bad, heard, heard_asked, heard_fault, heard_fields, heard_heading, heard_record, heard_within, heard_word};
+ghost use Rattle.pf_session_lines.specs.Faults.{line_reason};
+ghost use Rattle.pf_session_lines.specs.Heard.{bad, has_escape, heard, heard_asked, heard_fields, heard_record, heard_within, heard_word, is_heading};
+ghost use Rattle.pf_session_lines.specs.declared.heard.Heard.TheVariants.{Bad};
 
 use crate::ask::ask;
 use crate::asked::Asked;
 use crate::bytes::Bytes;
 use crate::fault::{LineFault, LineReason};
 use crate::heard::Heard;
-use crate::reason::reason_text;
+use crate::reason::{fault_hint, fault_text};
 use crate::row_text::{line_of, row_text};
 use crate::word::Word;
 use csv::ByteRecord;
 use pf_script::fields::Fields;
-use pf_script::plan::fault::RecordFault;
+use pf_script::plan::fault::{Reason, RecordFault};
 use pf_script::plan::heading::{heading_fault, is_plan_heading};
 use pf_script::plan::said::Said;
 use pf_script::plan::state::Progress;
@@ -59,10 +61,7 @@ fn hear_within(
     ensures { IfOk result (λ h. h ≡ heard_within is_first progress.now line.now) }
 {
     if line.len() > LONGEST_LINE {
-        return Ok(Heard::Bad {
-            field: 0,
-            text: Bytes::copy(alloc, b"it has more than 65536 bytes")?,
-        });
+        return bad_line(alloc, b"it has more than 65536 bytes");
     }
     if line == b"step".as_slice() {
         return hear_step(alloc, is_first, progress);
@@ -71,9 +70,30 @@ fn hear_within(
     let mut rows = Rows::new(alloc, &text);
     let mut row = ByteRecord::new(alloc);
     match rows.next(&mut row)? {
+        NextRow::Found(_) if has_escape(line) => {
+            bad_line(alloc, b"no line editing here: rlwrap pfair desk")
+        }
         NextRow::Found(_) => hear_fields(alloc, is_first, progress, &Fields::new(&row)),
         NextRow::End(_) => Ok(Heard::Nothing),
     }
+}
+
+/// A line that is bad as a whole.
+fn bad_line(alloc: Global, text: &[u8]) -> Result<Heard, AllocError>
+    ensures { IfOk result (λ h. h ≡ Bad 0 text.now []) }
+{
+    Ok(Heard::Bad {
+        field: 0,
+        text: Bytes::copy(alloc, text)?,
+        hint: Bytes::of(Vec::new(alloc)),
+    })
+}
+
+/// Whether a line has the byte that begins what an arrow key leaves.
+fn has_escape(line: &[u8]) -> bool
+    ensures { result ≡ has_escape line.now }
+{
+    line.contains(&27)
 }
 
 /// What the line is that steps a slot. Its row has one field, and is made without a reader of CSV: to make one takes ten times as
@@ -87,49 +107,43 @@ fn hear_step(alloc: Global, is_first: bool, progress: &Progress) -> Result<Heard
     hear_fields(alloc, is_first, progress, &Fields::new(&row))
 }
 
-/// What a line with fields is.
+/// What a line with these fields is.
 fn hear_fields(
     alloc: Global,
     is_first: bool,
     progress: &Progress,
     fields: &Fields,
 ) -> Result<Heard, AllocError>
-    ensures { IfOk result (λ h. h ≡ heard_fields is_first progress.now (Some fields.now)) }
+    ensures { IfOk result (λ h. h ≡ heard_fields is_first progress.now fields.now) }
 {
-    if is_first && is_plan_heading(fields) {
-        return hear_heading(alloc, fields, heading_fault(fields));
+    if is_first && is_heading(fields) {
+        return Ok(Heard::Heading);
     }
     match Word::at(fields) {
-        Some(word) => hear_word(alloc, fields, ask(progress, word, fields)),
-        None => hear_record(alloc, fields, progress.read(fields)),
+        Some(word) => hear_word(alloc, progress, fields, ask(progress, word, fields)),
+        None => hear_record(alloc, progress, fields, progress.read(fields)),
     }
 }
 
-/// A heading with these fields, which may have a fault.
-fn hear_heading(
-    alloc: Global,
-    fields: &Fields,
-    fault: Option<RecordFault>,
-) -> Result<Heard, AllocError>
-    ensures { IfOk result (λ h. h ≡ heard_heading fields.now fault) }
+/// Whether a record is the heading `plan,1`.
+fn is_heading(fields: &Fields) -> bool
+    ensures { result ≡ is_heading fields.now }
 {
-    match fault {
-        None => Ok(Heard::Heading),
-        Some(fault) => hear_fault(alloc, fields, fault),
-    }
+    is_plan_heading(fields) && heading_fault(fields).is_none()
 }
 
 /// A word with these fields.
 fn hear_word(
     alloc: Global,
+    progress: &Progress,
     fields: &Fields,
     asked: Result<Asked, LineFault>,
 ) -> Result<Heard, AllocError>
-    ensures { IfOk result (λ h. h ≡ heard_word fields.now asked) }
+    ensures { IfOk result (λ h. h ≡ heard_word progress.now fields.now asked) }
 {
     match asked {
         Ok(asked) => hear_asked(alloc, fields, asked),
-        Err(fault) => hear_bad(alloc, fields, fault),
+        Err(fault) => hear_bad(alloc, progress, fields, fault),
     }
 }
 
@@ -149,33 +163,45 @@ fn hear_asked(alloc: Global, fields: &Fields, asked: Asked) -> Result<Heard, All
 /// A record with these fields.
 fn hear_record(
     alloc: Global,
+    progress: &Progress,
     fields: &Fields,
     read: Result<Said, RecordFault>,
 ) -> Result<Heard, AllocError>
-    ensures { IfOk result (λ h. h ≡ heard_record fields.now read) }
+    ensures { IfOk result (λ h. h ≡ heard_record progress.now fields.now read) }
 {
     match read {
         Ok(said) => Ok(Heard::Record(said, Bytes::of(line_of(alloc, fields)?))),
-        Err(fault) => hear_fault(alloc, fields, fault),
+        Err(fault) => {
+            let RecordFault { field, reason } = fault;
+            let reason = line_reason(reason);
+            hear_bad(alloc, progress, fields, LineFault { field, reason })
+        }
     }
 }
 
-/// A bad record with these fields.
-fn hear_fault(alloc: Global, fields: &Fields, fault: RecordFault) -> Result<Heard, AllocError>
-    ensures { IfOk result (λ h. h ≡ heard_fault fields.now fault) }
+/// Why a line is bad whose record is.
+fn line_reason(reason: Reason) -> LineReason
+    ensures { result ≡ line_reason reason }
 {
-    let RecordFault { field, reason } = fault;
-    let reason = LineReason::OfRecord(reason);
-    hear_bad(alloc, fields, LineFault { field, reason })
+    match reason {
+        Reason::NoRecord => LineReason::NoWord,
+        _ => LineReason::OfRecord(reason),
+    }
 }
 
 /// A bad line with these fields.
-fn hear_bad(alloc: Global, fields: &Fields, fault: LineFault) -> Result<Heard, AllocError>
-    ensures { IfOk result (λ h. h ≡ bad fields.now fault) }
+fn hear_bad(
+    alloc: Global,
+    progress: &Progress,
+    fields: &Fields,
+    fault: LineFault,
+) -> Result<Heard, AllocError>
+    ensures { IfOk result (λ h. h ≡ bad progress.now fields.now fault) }
 {
-    let at = fields.field(fault.field.saturating_sub(1));
+    let hint = Bytes::of(fault_hint(alloc, progress, fields, fault)?);
     Ok(Heard::Bad {
         field: fault.field as u64,
-        text: reason_text(alloc, at, fault.reason)?,
+        text: fault_text(alloc, progress, fields, fault)?,
+        hint,
     })
 }

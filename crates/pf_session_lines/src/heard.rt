@@ -23,9 +23,11 @@ pub enum Heard {
     Quit,
     /// A bad line.
     Bad {
-        /// The field at fault, counted from 1; 0 where there is none.
+        /// The field at fault, counted from 1; 0 where the line is.
         field: u64,
         /// Why it is bad.
         text: Bytes,
+        /// What would be right; no byte where nothing can be said.
+        hint: Bytes,
     },
 }

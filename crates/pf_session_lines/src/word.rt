@@ -1,6 +1,6 @@
 ghost use Rattle.std.specs.Prelude.{◌≡◌};
 ghost use Rattle.pf_vocabulary.specs.Options.Formats.{format_named};
-ghost use Rattle.pf_session_lines.specs.Words.{has_range, is_early, word_at};
+ghost use Rattle.pf_session_lines.specs.Words.{fields_after, first_after, has_range, is_early, word_at};
 
 use pf_script::fields::Fields;
 use pf_vocabulary::options::format::Format;
@@ -16,7 +16,7 @@ pub enum Word {
     Fit,
     /// `undo`.
     Undo,
-    /// `save`, with something after it.
+    /// `save`.
     Save,
     /// `help`.
     Help,
@@ -42,7 +42,7 @@ impl Word {
         if fields.is_word(0, b"undo") {
             return Some(Word::Undo);
         }
-        if fields.is_word(0, b"save") && fields.len() > 1 {
+        if fields.is_word(0, b"save") {
             return Some(Word::Save);
         }
         if fields.is_word(0, b"help") {
@@ -64,6 +64,29 @@ impl Word {
         ensures { result ≡ is_early self.now }
     {
         matches!(self, Word::Help | Word::Quit)
+    }
+}
+
+/// What stands after a word in its form; in brackets what may be left out.
+pub(crate) fn fields_after(word: Option<Word>) -> &'static str
+    ensures { result.now ≡ fields_after word }
+{
+    match word {
+        Some(Word::Shows(format)) if has_range(&format) => " [F [T]]",
+        Some(Word::Why) => " SLOT [TASK]",
+        Some(Word::Save) => " FILE",
+        _ => "",
+    }
+}
+
+/// The field that must stand after a word.
+pub(crate) fn first_after(word: Option<Word>) -> &'static str
+    ensures { result.now ≡ first_after word }
+{
+    match word {
+        Some(Word::Why) => "SLOT",
+        Some(Word::Save) => "FILE",
+        _ => "",
     }
 }
 

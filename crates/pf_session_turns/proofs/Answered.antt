@@ -29,7 +29,7 @@ goes_on shows by s v Undo g a t w h = (h.0, h.1, h.2, refl)
 goes_on shows by s v (Save file) g a t w h = (h.0, h.1, saves by s v file h.0 g a t w h.2)
 goes_on shows by s v Help g a t w h = (h.0, h.1, h.2, refl)
 goes_on shows by s v Quit g a t w h = (h.0, h.1, h.2, refl)
-goes_on shows by s v (Bad field text) g a t w h = (h.0, h.1, h.2, refl)
+goes_on shows by s v (Bad field text hint) g a t w h = (h.0, h.1, h.2, refl)
 
 answered : (shows : Showings) {S : Type 0} (by : S → List ℕ → List ℕ → Bool → S → Type 0) (s : SessionState) (v : S) (line : List ℕ) (g : Going) (a : List ℕ)
     (t : SessionState) (w : S) → AnswersLine shows by s v line g a t w → answers shows s line a g t

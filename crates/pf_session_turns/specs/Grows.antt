@@ -6,8 +6,8 @@ use Rattle.std.specs.Str.Lines.{strip_carriage_return}
 use Rattle.std.proofs.Common.{inl, inr, sym, ◌∙◌, ap, append_assoc}
 use Rattle.std.proofs.lemmas.List.{append-nil}
 use Rattle.pf_session_lines.specs.Asked.{asked_at}
-use Rattle.pf_session_lines.specs.Faults.{too_long_text}
-use Rattle.pf_session_lines.specs.Heard.{heard, heard_fields, heard_heading, heard_if, heard_record, heard_word}
+use Rattle.pf_session_lines.specs.Faults.{escape_text, too_long_text}
+use Rattle.pf_session_lines.specs.Heard.{has_escape, heard, heard_fields, heard_if, heard_record, heard_row, heard_word, is_heading}
 use Rattle.pf_session_lines.specs.Lines.{fields_in, line_of}
 use Rattle.pf_session.specs.Showings.{Showings}
 use Rattle.pf_session_lines.specs.Words.{word_at}
@@ -28,7 +28,6 @@ use Rattle.pf_stream.specs.Dialogue.Scripts.{GrowsTo}
 use Rattle.pf_stream.specs.declared.dialogue.answers.Going.{Going}
 use Rattle.pf_session_turns.specs.Turns.{GoesOn, Saves, behind_showing, heard_in, heard_of, line_in}
 use Rattle.pf_session.specs.Session.{SessionState, behind_undo_of, newest_of}
-use Rattle.pf_script.specs.Plan.Heading.{heading_fault, is_plan_heading}
 use Rattle.pf_script.specs.Plan.Parsing.{said_at}
 use Rattle.pf_script.specs.declared.plan.fault.RecordFault.{RecordFault}
 use Rattle.pf_script.specs.declared.plan.said.Said.{Said}
@@ -60,41 +59,40 @@ IsLined Undo = ⊤
 IsLined (Save file) = ⊤
 IsLined Help = ⊤
 IsLined Quit = ⊤
-IsLined (Bad field text) = ⊤
+IsLined (Bad field text hint) = ⊤
 
 either_lined : (first : Bool) (a b : Heard) → IsLined a → IsLined b → IsLined (if first then a else b)
 either_lined true a b is other = is
 either_lined false a b is other = other
 
-record_lined : (fields : List (List ℕ)) (said : Result Said RecordFault) → IsLined (heard_record fields said)
-record_lined fields (Ok said) = fields_end fields
-record_lined fields (Err fault) = tt
+record_lined : (p : Progress) (fields : List (List ℕ)) (said : Result Said RecordFault) → IsLined (heard_record p fields said)
+record_lined p fields (Ok said) = fields_end fields
+record_lined p fields (Err fault) = tt
 
-word_lined : (fields : List (List ℕ)) (asked : Result Asked LineFault) → IsLined (heard_word fields asked)
-word_lined fields (Ok (asks.Shown wanted)) = tt
-word_lined fields (Ok asks.Undo) = tt
-word_lined fields (Ok asks.Save) = tt
-word_lined fields (Ok asks.Help) = tt
-word_lined fields (Ok asks.Quit) = tt
-word_lined fields (Err fault) = tt
+word_lined : (p : Progress) (fields : List (List ℕ)) (asked : Result Asked LineFault) → IsLined (heard_word p fields asked)
+word_lined p fields (Ok (asks.Shown wanted)) = tt
+word_lined p fields (Ok asks.Undo) = tt
+word_lined p fields (Ok asks.Save) = tt
+word_lined p fields (Ok asks.Help) = tt
+word_lined p fields (Ok asks.Quit) = tt
+word_lined p fields (Err fault) = tt
 
 if_lined : (p : Progress) (fields : List (List ℕ)) (word : Option Word) → IsLined (heard_if p fields word)
-if_lined p fields None = record_lined fields (said_at p fields)
-if_lined p fields (Some word) = word_lined fields (asked_at p word fields)
+if_lined p fields None = record_lined p fields (said_at p fields)
+if_lined p fields (Some word) = word_lined p fields (asked_at p word fields)
 
-heading_lined : (fields : List (List ℕ)) (fault : Option RecordFault) → IsLined (heard_heading fields fault)
-heading_lined fields None = tt
-heading_lined fields (Some fault) = tt
+fields_lined : (is_first : Bool) (p : Progress) (fields : List (List ℕ)) → IsLined (heard_fields is_first p fields)
+fields_lined is_first p fields = either_lined (is_first && is_heading fields) Heading _ tt (if_lined p fields (word_at fields))
 
-fields_lined : (is_first : Bool) (p : Progress) (fields : Option (List (List ℕ))) → IsLined (heard_fields is_first p fields)
-fields_lined is_first p None = tt
-fields_lined is_first p (Some fields) =
-    either_lined (is_first && is_plan_heading fields) _ _ (heading_lined fields (heading_fault fields)) (if_lined p fields (word_at fields))
+row_lined : (is_first : Bool) (p : Progress) (line : List ℕ) (fields : Option (List (List ℕ))) → IsLined (heard_row is_first p line fields)
+row_lined is_first p line None = tt
+row_lined is_first p line (Some fields) =
+    either_lined (has_escape line) (Bad 0 escape_text []) _ tt (fields_lined is_first p fields)
 
 heard_lined : (is_first : Bool) (p : Progress) (line : List ℕ) → IsLined (heard is_first p line)
 heard_lined is_first p line =
     let text = strip_carriage_return line in
-    either_lined (nat_lt LONGEST_LINE (length text)) (Bad 0 too_long_text) _ tt (fields_lined is_first p (fields_in text))
+    either_lined (nat_lt LONGEST_LINE (length text)) (Bad 0 too_long_text []) _ tt (row_lined is_first p text (fields_in text))
 
 in_lined : (s : SessionState) (line : Option (List ℕ)) → IsLined (heard_in s line)
 in_lined s None = tt
@@ -132,7 +130,7 @@ goes_grows shows saves s v Undo g a t w is h = undo_grows s t s.course.desk (new
 goes_grows shows saves s v (Save file) g a t w is h = saves_grows saves s v file h.0 g a t w h.2
 goes_grows shows saves s v Help g a t w is h = stays s t (ap (λ q. q.script) h.2)
 goes_grows shows saves s v Quit g a t w is h = stays s t (ap (λ q. q.script) h.2)
-goes_grows shows saves s v (Bad field text) g a t w is h = stays s t (ap (λ q. q.script) h.2)
+goes_grows shows saves s v (Bad field text hint) g a t w is h = stays s t (ap (λ q. q.script) h.2)
 
 -- Use: the law of a sitter's script.
 pub grows : (shows : Showings) (s : SessionState) (line text : List ℕ) (going : Going) (t : SessionState) → answers shows s line text going t → GrowsTo s.script t.script

@@ -1,6 +1,7 @@
 -- How a session goes on with a line, and what it answers.
 use Rattle.std.specs.Prelude.{ℕ, ◌≡◌, ◌⊎◌, ◌-◌, ◌==◌, Bool, true, false, if◌then◌else◌, Option, None, Some, List, [], ◌++◌, length, take, slice_index, codes}
 use Rattle.pf_answers.specs.Bad.{bad_text}
+use Rattle.pf_answers.specs.declared.manner.Manner.{Manner}
 use Rattle.pf_answers.specs.Shown.{shown_text}
 use Rattle.pf_answers.specs.Telling.{taken_text, told_text}
 use Rattle.pf_session_lines.specs.Heard.{heard}
@@ -22,9 +23,9 @@ use Rattle.pf_stream.specs.declared.dialogue.answers.Going.{Going}
 use Rattle.pf_stream.specs.declared.dialogue.answers.Going.TheVariants.{On, Ends}
 
 -- the answer to what is shown, or to what can't be
-abbrev pub showing_answer : Bool → Wanted → Showing → List ℕ
-showing_answer json wanted (showing.Text text) = shown_text json (is_value wanted) text.items
-showing_answer json wanted (showing.Bad words) = bad_text json 0 words.items
+abbrev pub showing_answer : Manner → Wanted → Showing → List ℕ
+showing_answer manner wanted (showing.Text text) = shown_text manner.json (is_value wanted) text.items
+showing_answer manner wanted (showing.Bad words) = bad_text manner 0 words.items []
 
 abbrev pub behind_showing : SessionState → Showing → SessionState
 behind_showing s (showing.Text text) = s
@@ -42,7 +43,7 @@ Goes going answer state saver g a t w = (g ≡ going) × (a ≡ answer) × (t �
 
 -- a text was to be written to the file of this name: `saves` tells whether it was
 abbrev pub Saves : {S : Type 0} → (S → List ℕ → List ℕ → Bool → S → Type 0) → SessionState → S → List ℕ → Showing → Going → List ℕ → SessionState → S → Type 0
-Saves saves s v file (showing.Bad words) g a t w = Goes On (bad_text s.manner.json 0 words.items) (behind_bad s) v g a t w
+Saves saves s v file (showing.Bad words) g a t w = Goes On (bad_text s.manner 0 words.items []) (behind_bad s) v g a t w
 Saves saves s v file (showing.Text text) g a t w =
     (is_saved : Bool) × saves v file text.items is_saved w × (g ≡ On) × (a ≡ saved_text s.manner.json file is_saved) × (t ≡ s)
 
@@ -53,13 +54,13 @@ GoesOn shows saves s v Nothing g a t w = Goes On [] s v g a t w
 GoesOn shows saves s v Heading g a t w = Goes On (taken_text s.manner.json) (record s { is_first = false }) v g a t w
 GoesOn shows saves s v (Record said line) g a t w = Goes On (said_answer s.manner s.course said) (behind_record s said line) v g a t w
 GoesOn shows saves s v (Shown wanted) g a t w =
-    (made : Showing) × shows wanted s made × Goes On (showing_answer s.manner.json wanted made) (behind_showing s made) v g a t w
+    (made : Showing) × shows wanted s made × Goes On (showing_answer s.manner wanted made) (behind_showing s made) v g a t w
 GoesOn shows saves s v Undo g a t w =
     Goes On (undo_answer s.manner s.course.progress.names s.course.desk (newest_of s.made)) (behind_undo s) v g a t w
 GoesOn shows saves s v (Save file) g a t w = (made : Showing) × shows (Report Script) s made × Saves saves s v file made g a t w
 GoesOn shows saves s v Help g a t w = Goes On (shown_text s.manner.json false help_text) s v g a t w
 GoesOn shows saves s v Quit g a t w = Goes Ends [] s v g a t w
-GoesOn shows saves s v (Bad field text) g a t w = Goes On (bad_text s.manner.json field text) (behind_bad s) v g a t w
+GoesOn shows saves s v (Bad field text hint) g a t w = Goes On (bad_text s.manner field text hint) (behind_bad s) v g a t w
 
 -- of a last line that lacks its line feed, where whole lines are wanted
 abbrev pub no_end_text : List ℕ
@@ -71,7 +72,7 @@ line_in whole line = if slice_index line (length line - 1) == 10 then Some (take
 
 -- what it hears of that
 abbrev pub heard_in : SessionState → Option (List ℕ) → Heard
-heard_in s None = Bad 0 no_end_text
+heard_in s None = Bad 0 no_end_text []
 heard_in s (Some line) = heard s.is_first s.course.progress line
 
 -- what it hears of a line as it came

@@ -40,7 +40,7 @@ pub(crate) fn save_script<S: Saver, V: Shows>(
             let json = session.manner().json;
             save_text(alloc, json, saver, file, &script, text)
         }
-        Showing::Bad(words) => session.take_bad(0, &words, text),
+        Showing::Bad(words) => session.take_bad(0, &words, b"", text),
     }
 }
 

@@ -20,12 +20,12 @@ pub(crate) fn tell_wanted<V: Shows>(
     text: &mut Vec<u8>,
 ) -> Result<(), AllocError>
     ensures ok { OnOk result ((made : Showing) × V.shows wanted.now session.old made × (session.new ≡ behind_showing session.old made)
-        × (text.new.items ≡ text.old.items ++ showing_answer session.old.manner.json wanted.now made)) }
+        × (text.new.items ≡ text.old.items ++ showing_answer session.old.manner wanted.now made)) }
     ensures err { OnErr result (session.new ≡ session.old) }
     ensures same { OnErr result (text.new.items ≡ text.old.items) }
 {
     match views.show(session, wanted)? {
         Showing::Text(shown) => session.tell_shown(wanted.is_value(), &shown, text),
-        Showing::Bad(words) => session.take_bad(0, &words, text),
+        Showing::Bad(words) => session.take_bad(0, &words, b"", text),
     }
 }

@@ -37,7 +37,7 @@ pub(crate) fn turn<S: Saver, V: Shows>(
     ensures same { OnErr result (text.new.items ≡ text.old.items) }
 {
     let Some(line) = without_end(session.manner().whole, line) else {
-        session.take_bad(0, b"it has no line end", text)?;
+        session.take_bad(0, b"it has no line end", b"", text)?;
         return Ok(Going::On);
     };
     let heard = hear(
@@ -84,7 +84,11 @@ fn take<S: Saver, V: Shows>(
         Heard::Save(file) => save_script(session, saver, views, file.as_slice(), text)?,
         Heard::Help => tell_help(session, text)?,
         Heard::Quit => return Ok(Going::Ends),
-        Heard::Bad { field, text: words } => session.take_bad(field, words.as_slice(), text)?,
+        Heard::Bad {
+            field,
+            text: words,
+            hint,
+        } => session.take_bad(field, words.as_slice(), hint.as_slice(), text)?,
     }
     Ok(Going::On)
 }

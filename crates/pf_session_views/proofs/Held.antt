@@ -10,7 +10,7 @@ use Rattle.pf_replies.proofs.Courses.{seen_there}
 use Rattle.pf_replies.specs.Course.{ScriptCourse, course_at, seen_at}
 use Rattle.pf_session_lines.specs.declared.showing.Showing.TheVariants.{Text, Bad}
 use Rattle.pf_session_views.specs.Held.{ShowsMeaning}
-use Rattle.pf_session_views.specs.Shown.{range_words}
+use Rattle.pf_session_views.specs.Shown.{range_text}
 use Rattle.pf_vocabulary.specs.Options.Formats.{range_fault}
 use Rattle.pf_vocabulary.specs.declared.fault.range_fault.RangeFault.{RangeFault}
 use Rattle.pf_vocabulary.specs.declared.names.titles.Titles.{Titles}
@@ -19,7 +19,7 @@ use Rattle.pf_vocabulary.specs.declared.options.format.Format.{Format}
 -- Use: the report of a desk.
 pub report_shown : (format : Format) (titles : Titles) (desk : Shown) (seen : Seen) (text : Vec ℕ Global) → range_fault format desk.state.now ≡ None
     → StandsForHistory desk.history seen → seen ≡ record { version = length desk.history; state = desk.state; rows = desk.rows; denials = desk.denials }
-    → text.items ≡ report_text format desk.every seen titles [] → ShowsMeaning (report_meaning format titles [] (course_at desk)) (Text text)
+    → text.items ≡ report_text format desk.every seen titles [] → ShowsMeaning format desk.state.now (report_meaning format titles [] (course_at desk)) (Text text)
 report_shown format titles desk seen text fits stands shows is =
     let meant = shown_meaning format titles [] (course_at desk) fits in (
       ap (λ (m : Meaning). m.end) meant,
@@ -28,6 +28,6 @@ report_shown format titles desk seen text fits stands shows is =
 
 -- Use: its range can't be shown.
 pub range_shown : (format : Format) (titles : Titles) (c : ScriptCourse) (fault : RangeFault) (words : Vec ℕ Global) → range_fault format c.state.now ≡ Some fault
-    → words.items ≡ range_words fault → ShowsMeaning (report_meaning format titles [] c) (Bad words)
+    → words.items ≡ range_text format c.state.now fault → ShowsMeaning format c.state.now (report_meaning format titles [] c) (Bad words)
 range_shown format titles c fault words at is =
     (fault, ap (λ o. (text_unless o (report_text format c.every (seen_at c) titles [])).end) at, is)

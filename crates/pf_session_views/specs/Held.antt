@@ -9,7 +9,7 @@ use Rattle.pf_session_lines.specs.declared.showing.Showing.{Showing}
 use Rattle.pf_session_lines.specs.declared.showing.Showing.TheVariants.{Text, Bad}
 use Rattle.pf_session_lines.specs.declared.wanted.Wanted.{Wanted}
 use Rattle.pf_session_lines.specs.declared.wanted.Wanted.TheVariants.{Report, Why, Fit}
-use Rattle.pf_session_views.specs.Shown.{Shows, ShowsAnswer, range_words}
+use Rattle.pf_session_views.specs.Shown.{Shows, ShowsAnswer, range_text}
 use Rattle.pf_vocabulary.specs.Options.Formats.{has_replies, tells_refusals}
 use Rattle.pf_vocabulary.specs.declared.fault.answer.Answer.{Answer}
 use Rattle.pf_vocabulary.specs.declared.fault.range_fault.RangeFault.{RangeFault}
@@ -22,15 +22,15 @@ use Rattle.pf_why_answer.specs.Answer.{IsAnswer, seen_told}
 abbrev pub is_of_desk : Format → Bool
 is_of_desk format = not (has_replies format) && not (tells_refusals format)
 
--- the text of a meaning, or the words of the range that can't be shown
-abbrev pub ShowsMeaning : Meaning → Showing → Type 0
-ShowsMeaning m (Text text) = (m.end ≡ Done) × (text.items ≡ m.text)
-ShowsMeaning m (Bad words) = (fault : RangeFault) × (m.end ≡ Outside fault) × (words.items ≡ range_words fault)
+-- the text of a meaning in a format, or why that can't be shown of so many slots
+abbrev pub ShowsMeaning : Format → ℕ → Meaning → Showing → Type 0
+ShowsMeaning format n m (Text text) = (m.end ≡ Done) × (text.items ≡ m.text)
+ShowsMeaning format n m (Bad words) = (fault : RangeFault) × (m.end ≡ Outside fault) × (words.items ≡ range_text format n fault)
 
 -- a report in a format that is of a desk or not
 abbrev pub ReportShows : Bool → ScriptCourse → Titles → Format → List ℕ → Showing → Type 0
-ReportShows true c titles format script showing = ShowsMeaning (report_meaning format titles [] c) showing
-ReportShows false c titles format script showing = Shows (Report format) script showing
+ReportShows true c titles format script showing = ShowsMeaning format c.state.now (report_meaning format titles [] c) showing
+ReportShows false c titles format script showing = Shows c.state.now (Report format) script showing
 
 -- the answer to a question about a desk that is so far
 abbrev pub WhyShows : ScriptCourse → Titles → Question → Showing → Type 0
@@ -41,11 +41,11 @@ WhyShows c titles q showing =
 abbrev pub DeskShows : ScriptCourse → Titles → Wanted → List ℕ → Showing → Type 0
 DeskShows c titles (Report format) script showing = ReportShows (is_of_desk format) c titles format script showing
 DeskShows c titles (Why question) script showing = WhyShows c titles question showing
-DeskShows c titles Fit script showing = Shows Fit script showing
+DeskShows c titles Fit script showing = Shows c.state.now Fit script showing
 
 -- before the settings there is no desk
 abbrev pub HeldShows : Option ScriptCourse → Titles → Wanted → List ℕ → Showing → Type 0
-HeldShows None titles w script showing = Shows w script showing
+HeldShows None titles w script showing = Shows 0 w script showing
 HeldShows (Some c) titles w script showing = DeskShows c titles w script showing
 
 -- of a session

@@ -38,7 +38,7 @@ pub(crate) fn desk_shown(
     match wanted {
         Wanted::Report(format) if is_of_desk(format) => report_shown(alloc, desk, titles, *format),
         Wanted::Why(question) => why_shown(alloc, desk, titles, question),
-        _ => script_shown(alloc, script, wanted),
+        _ => script_shown(alloc, script, desk.now(), wanted),
     }
 }
 
@@ -57,10 +57,11 @@ fn report_shown(
     titles: &Titles,
     format: Format,
 ) -> Result<Showing, AllocError>
-    ensures { IfOk result (ShowsMeaning (report_meaning format titles.now [] (course_at desk.now))) }
+    ensures { IfOk result (ShowsMeaning format desk.now.state.now (report_meaning format titles.now [] (course_at desk.now))) }
 {
-    match format.range_fault(desk.now()) {
-        Some(fault) => Ok(Showing::Bad(range_words(alloc, fault)?.into_bytes())),
+    let now = desk.now();
+    match format.range_fault(now) {
+        Some(fault) => Ok(Showing::Bad(range_words(alloc, format, now, fault)?.into_bytes())),
         None => {
             let seen = desk.snapshot()?;
             let text = report_text(alloc, &seen, desk.distance(), titles, format)?;

@@ -56,6 +56,6 @@ fn held_shown(
 {
     match desk {
         Some(desk) => desk_shown(alloc, desk, titles, script, wanted),
-        None => script_shown(alloc, script, wanted),
+        None => script_shown(alloc, script, 0, wanted),
     }
 }

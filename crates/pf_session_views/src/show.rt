@@ -17,10 +17,11 @@ use pf_vocabulary::fault::status::Status;
 use pf_vocabulary::names::titles::Titles;
 use std::alloc::{AllocError, Global};
 
-/// What a script of these bytes shows of what is wanted: the text that `pfair run`, `pfair why` or `pfair fit` gives of it, with `-`
-/// for the name of its file. A plan is read by the script of version 2 that belongs to it, and its titles and records are
-/// those of a plan. Where the program gives no text, the words of why: `settings are expected`, `range not within N slots`,
-/// `range too long`, `slot not below N slots`, and of another bad record and of a script that is too long the line of that fault.
+/// What a script of these bytes, by which so many slots were stepped, shows of what is wanted: the text that `pfair run`, `pfair why`
+/// or `pfair fit` gives of it, with `-` for the name of its file. A plan is read by the script of version 2 that belongs to it, and
+/// its titles and records are those of a plan. Where the program gives no text, the words of why: `settings are expected`, `F 2 is
+/// above T 1` and such, `slot T was not stepped: ..`, and of another bad record and of a script that is too long the line of that
+/// fault.
 ///
 /// # Errors
 ///
@@ -29,25 +30,32 @@ use std::alloc::{AllocError, Global};
 pub(crate) fn script_shown(
     alloc: Global,
     script: &[u8],
+    now: u64,
     wanted: &Wanted,
 ) -> Result<Showing, AllocError>
-    ensures { IfOk result (Shows wanted.now script.now) }
+    ensures { IfOk result (Shows now wanted.now script.now) }
 {
     match plain_script(alloc, script)? {
-        Some(plain) => show_plan(alloc, &plain, wanted),
-        None => show_short(alloc, script, None, &Titles::none(alloc), None, wanted),
+        Some(plain) => show_plan(alloc, &plain, now, wanted),
+        None => show_short(alloc, script, now, None, &Titles::none(alloc), None, wanted),
     }
 }
 
 /// The same of a plan, to which this one belongs.
 #[tactic(auto, using(crate::proofs::Shown::plan_shown))]
-fn show_plan(alloc: Global, plain: &PlainScript, wanted: &Wanted) -> Result<Showing, AllocError>
-    ensures { (p : Plain) → IsPlain plain.now p → IfOk result (ShowsPlan p wanted.now) }
+fn show_plan(
+    alloc: Global,
+    plain: &PlainScript,
+    now: u64,
+    wanted: &Wanted,
+) -> Result<Showing, AllocError>
+    ensures { (p : Plain) → IsPlain plain.now p → IfOk result (ShowsPlan now p wanted.now) }
 {
     let origins = plain.origins.as_slice();
     show_short(
         alloc,
         &plain.text,
+        now,
         plain.bad,
         &plain.titles,
         Some(origins),
@@ -61,30 +69,34 @@ fn show_plan(alloc: Global, plain: &PlainScript, wanted: &Wanted) -> Result<Show
 fn show_short(
     alloc: Global,
     script: &[u8],
+    now: u64,
     bad: Option<BadRecord>,
     titles: &Titles,
     origins: Option<&[Origin]>,
     wanted: &Wanted,
 ) -> Result<Showing, AllocError>
-    ensures { IfOk result (ShowsShort bad titles.now (option_map (λ o. o.now) origins.entry) wanted.now script.now) }
+    ensures { IfOk result (ShowsShort now bad titles.now (option_map (λ o. o.now) origins.entry) wanted.now script.now) }
 {
     if script.len() > LONGEST_SCRIPT {
-        return showing(alloc, bad, Err(Fault::TooLong));
+        return showing(alloc, wanted, now, bad, Err(Fault::TooLong));
     }
-    showing(alloc, bad, answer(alloc, script, titles, origins, wanted))
+    let made = answer(alloc, script, titles, origins, wanted);
+    showing(alloc, wanted, now, bad, made)
 }
 
 /// What an answer of the program shows, or the words of its fault.
 fn showing(
     alloc: Global,
+    wanted: &Wanted,
+    now: u64,
     bad: Option<BadRecord>,
     made: Result<Answer, Fault>,
 ) -> Result<Showing, AllocError>
-    ensures { IfOk result (IsShown bad made) }
+    ensures { IfOk result (IsShown wanted.now now bad made) }
 {
     match made {
         Ok(answer) => Ok(shown_answer(answer)),
-        Err(fault) => Ok(Showing::Bad(words(alloc, bad, fault)?)),
+        Err(fault) => Ok(Showing::Bad(words(alloc, wanted, now, bad, fault)?)),
     }
 }
 

@@ -1,5 +1,5 @@
 -- What is answered about a slot of a script's run.
-use Rattle.std.specs.Prelude.{ℕ, ◌≡◌, nat_lt, if◌then◌else◌, Option, None, Some, Result, Ok, Err, List, [], ◌++◌, codes}
+use Rattle.std.specs.Prelude.{ℕ, ◌≡◌, ◌-◌, ◌==◌, nat_lt, if◌then◌else◌, Option, None, Some, Result, Ok, Err, List, [], ◌++◌, codes}
 use Rattle.std.specs.Fmt.{decimal}
 use Rattle.pf_desk.specs.Desk.{Seen}
 use Rattle.pf_vocabulary.specs.declared.fault.answer.Answer.{Answer}
@@ -47,8 +47,16 @@ abbrev pub unnamed_line : TaskAsked → List ℕ
 unnamed_line (asked.Number number) = []
 unnamed_line (asked.Named name) = codes "\"" ++ (name ++ codes "\" names no task\n")
 
-abbrev pub unbelow_line : ℕ → List ℕ
-unbelow_line now = codes "slot not below " ++ (decimal now ++ codes " slots\n")
+-- which of so many slots were stepped
+abbrev pub stepped_text : ℕ → List ℕ
+stepped_text now =
+    if now == 0 then codes "none was"
+    else if now == 1 then codes "slot 0 was"
+    else codes "slots 0 to " ++ (decimal (now - 1) ++ codes " were")
+
+-- slot t is not one of those
+abbrev pub unbelow_line : ℕ → ℕ → List ℕ
+unbelow_line t now = codes "slot " ++ (decimal t ++ (codes " was not stepped: " ++ (stepped_text now ++ codes "\n")))
 
 -- the text of slot t in a format
 abbrev pub answer_text : List Named → Seen → WhyFormat → ℕ → Option ℕ → List ℕ
@@ -59,7 +67,7 @@ answer_text names seen Json t asked = why_json names seen t asked
 abbrev pub slot_told : List Named → Seen → WhyFormat → ℕ → Option ℕ → Told
 slot_told names seen format t asked =
     if nat_lt t seen.state.now then record { text = answer_text names seen format t asked; notes = []; status = Done }
-    else refused (unbelow_line seen.state.now)
+    else refused (unbelow_line t seen.state.now)
 
 -- where the name that is asked for is that of a task; else that it is not
 abbrev pub task_told : List Named → Seen → Question → TaskAsked → Option ℕ → Told

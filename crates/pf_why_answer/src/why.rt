@@ -1,7 +1,7 @@
 ghost use Rattle.std.specs.Prelude.{◌≡◌, ◌<◌, string_bytes, IfOk, IfErr};
 ghost use Rattle.pf_replies.specs.Course.{course_at, seen_at};
 ghost use Rattle.pf_vocabulary.specs.Fault.Faults.{IsUnwritten};
-ghost use Rattle.pf_why_answer.specs.Answer.{IsAnswer, IsQuietIfDone, WhyMade, answer_text, number_in, refused, seen_told, slot_told, unbelow_line, unnamed_line};
+ghost use Rattle.pf_why_answer.specs.Answer.{IsAnswer, IsQuietIfDone, WhyMade, answer_text, number_in, refused, seen_told, slot_told, stepped_text, unbelow_line, unnamed_line};
 
 use pf_desk::desk::Desk;
 use pf_desk::snapshot::Snapshot;
@@ -37,11 +37,23 @@ fn unnamed_line(alloc: Global, task: &TaskAsked) -> Result<String, AllocError>
     }
 }
 
-/// That a slot is not one of those stepped.
-fn unbelow_line(alloc: Global, now: u64) -> Result<String, AllocError>
-    ensures { IfOk result (λ line. string_bytes line ≡ unbelow_line now) }
+/// Which slots were stepped, of so many.
+fn stepped_text(alloc: Global, now: u64) -> Result<String, AllocError>
+    ensures { IfOk result (λ text. string_bytes text ≡ stepped_text now) }
 {
-    format!(in alloc; "slot not below {now} slots\n")
+    match now {
+        0 => String::from_str(alloc, "none was"),
+        1 => String::from_str(alloc, "slot 0 was"),
+        _ => format!(in alloc; "slots 0 to {} were", now - 1),
+    }
+}
+
+/// That slot t is not one of those stepped.
+fn unbelow_line(alloc: Global, t: u64, now: u64) -> Result<String, AllocError>
+    ensures { IfOk result (λ line. string_bytes line ≡ unbelow_line t now) }
+{
+    let stepped = stepped_text(alloc, now)?;
+    format!(in alloc; "slot {t} was not stepped: {}\n", stepped.as_str())
 }
 
 /// An answer that is nothing but this line on standard error.
@@ -90,7 +102,7 @@ fn slot_answer(
 {
     let now = seen.now();
     if t >= now {
-        return Ok(refused(alloc, unbelow_line(alloc, now)?));
+        return Ok(refused(alloc, unbelow_line(alloc, t, now)?));
     }
     let text = answer_text(alloc, seen, names, format, t, asked)?;
     Ok(Answer::done(alloc, text))

@@ -1,4 +1,4 @@
-use Rattle.std.proofs.Common.{◌++◌, ◌∙◌, ap, refl, subst}
+use Rattle.std.proofs.Common.{[], ◌++◌, ◌∙◌, ap, refl, subst}
 use Rattle.std.proofs.lemmas.Result.{on_ok_weaker}
 use Rattle.pf_answers.specs.Bad.{bad_text}
 use Rattle.pf_vocabulary.specs.declared.options.format.Format.TheVariants.{Script}
@@ -30,10 +30,10 @@ pub returns-in-Bad-clause-ok : goal.returns-in-Bad-clause-ok
 returns-in-Bad-clause-ok g c =
     both_ok c.take_bad.result (λ session text. (
       showing.Bad c.in-Bad.words,
-      bad_text c.args.session.now.manner.json 0 c.in-Bad.words.items,
+      bad_text c.args.session.now.manner 0 c.in-Bad.words.items [],
       subst (λ y. g.V.Shows.shows (Report Script) c.args.session.now y) c.in-Bad.is c.in_ok-script.ensures.shown,
       (refl, refl, session ∙ ap behind_bad c.show.ensures.same, refl),
-      text ∙ ap (λ w. c.args.text.now.items ++ bad_text c.show.new.session.manner.json 0 w) c.deref-in-Bad.ensures.value
-          ∙ ap (λ s. c.args.text.now.items ++ bad_text s.manner.json 0 c.in-Bad.words.items) c.show.ensures.same,
+      text ∙ ap (λ w. c.args.text.now.items ++ bad_text c.show.new.session.manner 0 w []) c.deref-in-Bad.ensures.value
+          ∙ ap (λ s. c.args.text.now.items ++ bad_text s.manner 0 c.in-Bad.words.items []) c.show.ensures.same,
     ))
     c.take_bad.ensures.session c.take_bad.ensures.text

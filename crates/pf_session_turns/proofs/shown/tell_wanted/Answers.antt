@@ -1,4 +1,4 @@
-use Rattle.std.proofs.Common.{◌++◌, ◌∙◌, ap, ap₂, refl, subst}
+use Rattle.std.proofs.Common.{[], ◌++◌, ◌∙◌, ap, ap₂, refl, subst}
 use Rattle.std.proofs.lemmas.Result.{on_ok_weaker}
 use Rattle.pf_answers.specs.Bad.{bad_text}
 use Rattle.pf_answers.specs.Shown.{shown_text}
@@ -25,7 +25,7 @@ returns-in-Bad-clause-ok g c =
       showing.Bad c.in-Bad.words,
       subst (λ y. g.V.Shows.shows c.args.wanted.now c.args.session.now y) c.in-Bad.is c.in_ok-shown.ensures.shown,
       session ∙ ap behind_bad c.show.ensures.same,
-      text ∙ ap (λ w. c.args.text.now.items ++ bad_text c.show.new.session.manner.json 0 w) c.deref-in-Bad.ensures.value
-          ∙ ap (λ s. c.args.text.now.items ++ bad_text s.manner.json 0 c.in-Bad.words.items) c.show.ensures.same,
+      text ∙ ap (λ w. c.args.text.now.items ++ bad_text c.show.new.session.manner 0 w []) c.deref-in-Bad.ensures.value
+          ∙ ap (λ s. c.args.text.now.items ++ bad_text s.manner 0 c.in-Bad.words.items []) c.show.ensures.same,
     ))
     c.take_bad.ensures.session c.take_bad.ensures.text

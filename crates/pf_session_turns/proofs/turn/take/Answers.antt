@@ -6,7 +6,7 @@ use Rattle.pf_session_turns.proofs.turn.take.Goals as goal
 pub returns-in_ok-tell_wanted-in-Shown-clause-ok : goal.returns-in_ok-tell_wanted-in-Shown-clause-ok
 returns-in_ok-tell_wanted-in-Shown-clause-ok g c =
     let told = c.in_ok-tell_wanted-in-Shown.ensures.ok in
-    let answer = showing_answer c.args.session.now.manner.json c.in-Shown.wanted told.0 in (
+    let answer = showing_answer c.args.session.now.manner c.in-Shown.wanted told.0 in (
       answer,
       subst (λ h. GoesOn g.V.Shows.shows g.S.Saver.saves c.args.session.now c.args.saver.now h On answer c.tell_wanted.new.session c.args.saver.now) (sym c.in-Shown.is)
           (told.0, told.1, (refl, refl, told.2, refl)),
