@@ -32,6 +32,7 @@ BAD = {
     "step x": ('field 2: N: "x" is no number of 1 to 15 digits', None),
     "settings 1 2": ("settings come once, before all changes and steps", None),
     "undo 1": ("field 2: a field too much: undo", None),
+    "redo 1": ("field 2: a field too much: redo", None),
     "chart 0 1 2": ("field 4: a field too much: chart [F [T]]", None),
     "why": ("field 2: SLOT is missing: why SLOT [TASK]", None),
     "why x": ('field 2: "x" is no number of 1 to 15 digits', None),
@@ -63,7 +64,7 @@ class Plan:
 
     def __init__(self, told, quiet):
         self.told, self.quiet = told, quiet
-        self.script, self.events, self.made, self.given = "plan,1\n", {}, [], 0
+        self.script, self.events, self.made, self.undone, self.given = "plan,1\n", {}, [], [], 0
 
     def replies(self, script):
         return self.told.text(script, "run", "-f", "replies")
@@ -123,6 +124,7 @@ class Plan:
         number, answer = self.take(fields)
         if number is not None:
             self.made.append((bare[0], number, old))
+            self.undone = []
             self.note(bare, number)
         return answer
 
@@ -133,16 +135,26 @@ class Plan:
             self.events[number] = bare[2:] if bare[0] == "alter" else bare
 
     def undo(self):
-        if not self.made:
-            return "nothing to undo\n"
-        kind, number, old = self.made[-1]
+        return self.take_back(self.made, self.undone) or "nothing to undo\n"
+
+    def redo(self):
+        return self.take_back(self.undone, self.made) or "nothing to redo\n"
+
+    def take_back(self, changes, others):
+        """The answer where the last of the changes is taken back, which can then be taken back the other way; nothing without one."""
+        if not changes:
+            return ""
+        kind, number, old = changes[-1]
         back = {"alter": ["alter", str(number), *(old or [])], "strike": list(old or [])}.get(kind, ["strike", str(number)])
+        was = self.events.get(number)
         given, answer = self.take(back)
         if given is not None:
-            self.made.pop()
+            changes.pop()
             self.note(back, given)
             if kind == "strike":
-                self.made = [(k, given if n == number else n, o) for k, n, o in self.made]
+                for each in changes, others:
+                    each[:] = [(k, given if n == number else n, o) for k, n, o in each]
+            others.append((back[0], given, None if kind == "strike" else was))
         return answer
 
     def show(self, name, *ends):
@@ -198,7 +210,7 @@ def turn(rng, plan):
         fields = ["step", str(rng.randrange(1, 4))] if rng.random() < 0.5 else ["step"]
         return spelled(rng, fields), plan.take(fields)[1]
     if kind < 0.7:
-        return "undo", plan.undo()
+        return ("undo", plan.undo()) if rng.random() < 0.6 else ("redo", plan.redo())
     if kind < 0.85:
         return shown(rng, plan)
     if kind < 0.9:
@@ -283,7 +295,7 @@ def differs_in_json(wanted, given, line):
         return None if "bad" in told else f"{line!r}: {told}, not a bad line"
     if wanted.startswith("event "):
         return None if told.get("event") == int(wanted.split()[1]) else f"{line!r}: {told}, not {wanted!r}"
-    if word in SHOWN or word in ("why", "fit") or wanted == "nothing to undo\n":
+    if word in SHOWN or word in ("why", "fit") or wanted in ("nothing to undo\n", "nothing to redo\n"):
         is_same = told.get("value") == json.loads(wanted) if word in VALUES else told.get("text") == wanted.removesuffix("\n" * (word not in SHOWN + ("why", "fit")))
         return None if is_same else f"{line!r}: {told}, not {wanted!r}"
     return None

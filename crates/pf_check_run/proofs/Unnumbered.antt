@@ -35,9 +35,9 @@ use Rattle.pf_script.specs.declared.plan.said.Said.{Said}
 use Rattle.pf_script.specs.declared.plan.said.Said.TheVariants.{Settings, Slot, Name, Asks}
 use Rattle.pf_script.specs.declared.plan.state.Progress.{Progress}
 use Rattle.pf_script.specs.Plan.Heading.{heading_fault, is_plan_heading}
-use Rattle.pf_script.specs.Plan.Labels.{number_of_label}
+use Rattle.pf_script.specs.Plan.Labels.{number_of_label, with_label}
 use Rattle.pf_script.specs.Plan.Parsing.{◌>>=◌, alter_at, asked, edit_at, event_at, fault_at, first_labelled_at, given_label_at, id_at, label_at, labelled_again_at, labelled_at, name_at, number_or, of_length, opening_at, record_at, said_at, slot_at, steps_at, strike_at}
-use Rattle.pf_script.specs.Plan.Progress.{at_heading, progress_after, with_label}
+use Rattle.pf_script.specs.Plan.Progress.{at_heading, progress_after}
 
 -- the same but for the numbers of labels
 pub record AreAlike (p q : Progress) : Type 0 where

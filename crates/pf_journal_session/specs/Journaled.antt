@@ -45,7 +45,7 @@ session_on manner (Some script) bytes = opened manner script
 
 -- what there is to take back begins anew
 abbrev pub anew : SessionState → SessionState
-anew s = record s { made = [] }
+anew s = record s { made = []; undone = [] }
 
 -- a session is kept in a file that had these bytes: it answers from there on
 pub record IsKeptOn {D : Type 0} (seen : D → List ℕ) (may_leave : D → List ℕ → Type 0) (is_clean : D → Bool) (session : SessionState)

@@ -1,4 +1,4 @@
--- What a session answers to records and to `undo`.
+-- What a session answers to records, and to `undo` and `redo`.
 use Rattle.std.specs.Prelude.{ℕ, Bool, false, replicate, Option, None, Some, List, [], ◌++◌, codes}
 use Rattle.std.specs.List.{flat_map}
 use Rattle.pf_answers.specs.Changes.{counts_of, made_text}
@@ -23,6 +23,9 @@ use Rattle.pf_script.specs.declared.plan.said.Said.{Said}
 use Rattle.pf_script.specs.declared.plan.said.Said.TheVariants.{Settings, Slot, Name, Asks}
 use Rattle.pf_session.specs.Made.{taking_back}
 use Rattle.pf_session.specs.declared.made.Made.{Made}
+use Rattle.pf_session.specs.Session.{SessionState, exchanged, newest_of}
+use Rattle.pf_session_lines.specs.declared.reversal.Reversal.{Reversal}
+use Rattle.pf_session_lines.specs.declared.reversal.Reversal.TheVariants.{Undo, Redo}
 
 -- to a change in a state, which the desk machine answers so
 abbrev pub reply_answer : Manner → List Named → State → Change → Reply → List ℕ
@@ -58,8 +61,16 @@ said_answer m c (Slot length) = taken_text m.json
 said_answer m c (Name task name) = taken_text m.json
 said_answer m c (Asks line label) = asks_answer m c.progress.names c.desk line
 
--- to `undo`, of the last change that was made and is not taken back
-abbrev pub undo_answer : Manner → List Named → Option State → Option Made → List ℕ
-undo_answer m names None newest = told_text m.json (codes "nothing to undo")
-undo_answer m names (Some st) None = told_text m.json (codes "nothing to undo")
-undo_answer m names (Some st) (Some newest) = edit_answer m names st (taking_back newest) false
+-- where this change is taken back, or these words where there is none
+abbrev pub back_answer : List ℕ → Manner → List Named → Option State → Option Made → List ℕ
+back_answer nothing m names None newest = told_text m.json nothing
+back_answer nothing m names (Some st) None = told_text m.json nothing
+back_answer nothing m names (Some st) (Some newest) = edit_answer m names st (taking_back newest) false
+
+abbrev pub undo_answer : List ℕ → SessionState → List ℕ
+undo_answer nothing s = back_answer nothing s.manner s.course.progress.names s.course.desk (newest_of s.made)
+
+-- to `undo` or `redo`
+abbrev pub reversal_answer : Reversal → SessionState → List ℕ
+reversal_answer Undo s = undo_answer (codes "nothing to undo") s
+reversal_answer Redo s = undo_answer (codes "nothing to redo") (exchanged s)

@@ -1,7 +1,7 @@
-ghost use Rattle.std.specs.Prelude.{◌≡◌, ◌==◌, ◌++◌, ◌+◌, ◌-◌, ◌≤◌, find, length, map, take, OnOk};
+ghost use Rattle.std.specs.Prelude.{◌≡◌, ◌==◌, ◌++◌, ◌+◌, ◌-◌, ◌≤◌, find, length, map, option_map, take, OnOk};
 ghost use Rattle.std.specs.Option.{option_and_then, option_to_list};
 ghost use Rattle.std.specs.Vec.{vec_capacity, vec_len};
-ghost use Rattle.pf_session.specs.Made.{change_line, event_before, event_held, left_behind, made_of, new_number, number_made, renumbered, taking_back};
+ghost use Rattle.pf_session.specs.Made.{back_line, change_line, event_before, event_held, left_behind, made_of, new_number, number_made, renumbered, taking_back};
 
 use pf_desk::reply::Reply;
 use pf_notes::refusal::push_record;
@@ -9,6 +9,7 @@ use pf_notes::words::push_between;
 use pf_scenario::change::Change;
 use pf_scenario::event::{Event, Numbered};
 use pf_scenario::scenario::Scenario;
+use pf_vocabulary::names::name::Name;
 use std::alloc::AllocError;
 
 /// A change that was made, as it is taken back.
@@ -95,6 +96,16 @@ pub(crate) fn take_back(made: &mut Vec<Made>, newest: Made, number: u64)
     leave_behind(made, newest, number);
 }
 
+/// Adds what takes a change back again that was taken back, by a change of the event of this number, which was this one before. There
+/// must be room for one.
+pub(crate) fn reverse(others: &mut Vec<Made>, newest: Made, before: Option<Event>, number: u64)
+    requires { vec_len others.old + 1 ≤ vec_capacity others.old }
+    ensures { others.new.items ≡ left_behind newest number others.old.items ++ option_to_list (made_of (taking_back newest) before number) }
+{
+    leave_behind(others, newest, number);
+    push_made(others, newest.taking_back(), before, Some(number));
+}
+
 /// Gives the event of a struck change its new number in those that are left.
 fn leave_behind(made: &mut [Made], newest: Made, number: u64)
     ensures { made.new ≡ left_behind newest number made.old }
@@ -155,8 +166,25 @@ pub(crate) fn number_made(reply: &Reply) -> Option<u64>
     }
 }
 
+/// Appends the record of a change that takes one back, whose event goes by this label, a line.
+#[tactic(auto, unfolding(crate::specs::Made::back_line))]
+pub(crate) fn push_back(
+    text: &mut Vec<u8>,
+    label: Option<&Name>,
+    change: Change,
+) -> Result<(), AllocError>
+    ensures { OnOk result (text.new.items ≡ text.old.items ++ back_line (option_map (λ l. l.now) label.entry) change) }
+{
+    if let Some(label) = label {
+        text.extend_from_slice(b"label,")?;
+        text.extend_from_slice(label.as_bytes())?;
+        text.extend_from_slice(b",again,")?;
+    }
+    push_change(text, change)
+}
+
 /// Appends the record of a change, a line.
-pub(crate) fn push_change(text: &mut Vec<u8>, change: Change) -> Result<(), AllocError>
+fn push_change(text: &mut Vec<u8>, change: Change) -> Result<(), AllocError>
     ensures { OnOk result (text.new.items ≡ text.old.items ++ change_line change) }
 {
     match change {

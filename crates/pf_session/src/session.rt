@@ -28,6 +28,8 @@ pub struct Session {
     pub(crate) script: Vec<u8>,
     /// The changes that were made and are not taken back, the last one last.
     pub(crate) made: Vec<Made>,
+    /// The changes that an undo made and no redo took back, the last one last.
+    pub(crate) undone: Vec<Made>,
     /// Whether a line was bad.
     pub(crate) has_bad: bool,
 }
@@ -46,6 +48,7 @@ impl Model for Session {
       held = option_map course_at s.desk;
       script = s.script.items;
       made = s.made.items;
+      undone = s.undone.items;
       has_bad = s.has_bad;
     } };
 }
@@ -76,6 +79,7 @@ impl Session {
             desk: None,
             script: Vec::from_slice(alloc, b"plan,1\n")?,
             made: Vec::new(alloc),
+            undone: Vec::new(alloc),
             has_bad: false,
         })
     }
@@ -85,11 +89,12 @@ impl Session {
         self.alloc
     }
 
-    /// Has nothing to take back any more.
+    /// Has nothing to take back and nothing to make again any more.
     pub fn forget_made(&mut self)
-        ensures { self.new ≡ record self.old { made = [] } }
+        ensures { self.new ≡ record self.old { made = []; undone = [] } }
     {
         self.made.clear();
+        self.undone.clear();
     }
 
     /// How it answers.

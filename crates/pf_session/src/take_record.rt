@@ -169,6 +169,9 @@ impl Session {
             text,
         )?;
         push_made(&mut self.made, change, before, number);
+        if number.is_some() {
+            self.undone.clear();
+        }
         self.end_asked(label, number.unwrap_or(0), was, text)
     }
 

@@ -138,6 +138,7 @@ none_again manner s is at held script = (
     held = sym held k;
     script = sym script k;
     made = [];
+    undone = [];
     has_bad = false;
   },
 )

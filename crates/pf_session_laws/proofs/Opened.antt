@@ -109,6 +109,7 @@ text_again g manner s is came =
         held = held k;
         script = script k;
         made = [];
+        undone = [];
         has_bad = f.bad k;
       },
     )

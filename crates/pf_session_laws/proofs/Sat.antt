@@ -7,7 +7,7 @@ use Rattle.pf_session.specs.Showings.{Showings}
 use Rattle.pf_session_lines.specs.declared.showing.Showing.TheVariants as showing
 use Rattle.pf_session_lines.specs.declared.showing.Showing.{Showing}
 use Rattle.pf_session_lines.specs.declared.heard.Heard.{Heard}
-use Rattle.pf_session_lines.specs.declared.heard.Heard.TheVariants.{Nothing, Heading, Record, Shown, Undo, Save, Help, Quit, Bad}
+use Rattle.pf_session_lines.specs.declared.heard.Heard.TheVariants.{Nothing, Heading, Record, Shown, Reverse, Save, Help, Quit, Bad}
 use Rattle.pf_journal.specs.Crash.{IsMixing, IsOpenable, IsWithFront}
 use Rattle.pf_journal.specs.Lines.{records_of}
 use Rattle.pf_journal.specs.Texts.{whole_lines}
@@ -76,7 +76,7 @@ goes_end shows saves s v Nothing a t w h = not_on h.0
 goes_end shows saves s v Heading a t w h = not_on h.0
 goes_end shows saves s v (Record said line) a t w h = not_on h.0
 goes_end shows saves s v (Shown wanted) a t w h = not_on h.2.0
-goes_end shows saves s v Undo a t w h = not_on h.0
+goes_end shows saves s v (Reverse reversal) a t w h = not_on h.0
 goes_end shows saves s v (Save file) a t w h = saves_end saves s v file h.0 a t w h.2
 goes_end shows saves s v Help a t w h = not_on h.0
 goes_end shows saves s v Quit a t w h = h.2
@@ -97,7 +97,7 @@ goes_anyhow shows saves s v Nothing g a t w h = h
 goes_anyhow shows saves s v Heading g a t w h = h
 goes_anyhow shows saves s v (Record said line) g a t w h = h
 goes_anyhow shows saves s v (Shown wanted) g a t w h = (h.0, tt, h.2)
-goes_anyhow shows saves s v Undo g a t w h = h
+goes_anyhow shows saves s v (Reverse reversal) g a t w h = h
 goes_anyhow shows saves s v (Save file) g a t w h = (h.0, tt, h.2)
 goes_anyhow shows saves s v Help g a t w h = h
 goes_anyhow shows saves s v Quit g a t w h = h

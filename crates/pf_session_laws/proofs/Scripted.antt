@@ -15,18 +15,18 @@ use Rattle.pf_session_lines.specs.declared.asked.Asked.TheVariants as asks
 use Rattle.pf_session_lines.specs.declared.fault.LineFault.{LineFault}
 use Rattle.pf_session_lines.specs.declared.hear.TheConstants.{LONGEST_LINE}
 use Rattle.pf_session_lines.specs.declared.heard.Heard.{Heard}
-use Rattle.pf_session_lines.specs.declared.heard.Heard.TheVariants.{Nothing, Heading, Record, Shown, Undo, Save, Help, Quit, Bad}
+use Rattle.pf_session_lines.specs.declared.heard.Heard.TheVariants.{Nothing, Heading, Record, Shown, Reverse, Save, Help, Quit, Bad}
 use Rattle.pf_session_lines.specs.declared.word.Word.{Word}
 use Rattle.pf_journal.specs.Lines.{records_of, script_of}
 use Rattle.pf_journal_session.specs.Journaled.{anew, behind_file, session_on}
 use Rattle.pf_plain_script.specs.Plain.{Course, course_behind, start}
-use Rattle.pf_plain_script.specs.Written.{change_fields}
 use Rattle.pf_text.specs.Rows.Rows.{Row, rows as rows_in}
 use Rattle.pf_replies.specs.Course.{ScriptCourse}
 use Rattle.pf_script.specs.Told.{FaultTold, told}
-use Rattle.pf_script.specs.declared.line.Line.TheVariants.{Edit}
 use Rattle.pf_session.specs.Held.{held_behind}
-use Rattle.pf_session.specs.Made.{taking_back}
+use Rattle.pf_session.specs.Made.{label_back, taking_back}
+use Rattle.pf_session_lines.specs.declared.reversal.Reversal.{Reversal}
+use Rattle.pf_session_lines.specs.declared.reversal.Reversal.TheVariants.{Undo, Redo}
 use Rattle.pf_session.specs.declared.made.Made.{Made}
 use Rattle.pf_answers.specs.declared.manner.Manner.{Manner}
 use Rattle.pf_session_turns.specs.Opening.{behind_heading, behind_rows, ended, next, opened, opened_plain, opened_plan, opened_rows}
@@ -35,18 +35,17 @@ use Rattle.pf_stream.specs.Dialogue.Answered.{AnswersAll}
 use Rattle.pf_stream.specs.declared.dialogue.answers.Going.{Going}
 use Rattle.pf_stream.specs.declared.dialogue.answers.Going.TheVariants.{On}
 use Rattle.pf_session_turns.specs.Turns.{GoesOn, Saves, behind_showing, heard_in, heard_of, line_in}
-use Rattle.pf_session.specs.Session.{SessionState, at_start, behind_bad, behind_record, behind_undo_of, newest_of}
+use Rattle.pf_session.specs.Session.{SessionState, at_start, back_said, behind_bad, behind_record, behind_reversal, behind_undo, behind_undo_of, exchanged, newest_of}
 use Rattle.pf_script.specs.Plan.Heading.{heading_fault, is_plan_heading}
 use Rattle.pf_script.specs.Plan.Parsing.{end_fault, said_at}
 use Rattle.pf_script.specs.declared.plan.fault.RecordFault.{RecordFault}
 use Rattle.pf_script.specs.declared.plan.said.Said.{Said}
-use Rattle.pf_script.specs.declared.plan.said.Said.TheVariants.{Asks}
 use Rattle.pf_script.specs.declared.plan.state.Progress.{Progress}
 use Rattle.pf_session_laws.specs.Resumed.{anything, IsBegun, IsBehind, IsSession}
 use Rattle.pf_session_laws.proofs.Reading.{AreRead, IsRead, lines_text}
 use Rattle.pf_session_laws.proofs.Records.{said_read}
-use Rattle.pf_session_laws.proofs.Sound.{IsSound, ShortMade, back_short, made_behind_record, newest_short, opened_behind, sound_behind, sound_start, undone_short}
-use Rattle.pf_session_laws.proofs.Undone.{change_says, change_text}
+use Rattle.pf_session_laws.proofs.Sound.{IsSound, ShortMade, made_behind_record, newest_short, opened_behind, reversed_short, sound_behind, sound_start, undone_behind_record, undone_short}
+use Rattle.pf_session_laws.proofs.Undone.{back_fields, back_says, back_text}
 
 -- good records, one after the other, from one course to another
 abbrev pub Runs : Course → List (List (List ℕ)) → Course → Type 0
@@ -72,6 +71,7 @@ pub record IsScripted (s : SessionState) : Type 0 where
   pub held : s.held ≡ held_saids None (saids_in start rows s.course runs)
   pub sound : IsSound s.course
   pub made : ShortMade s.made
+  pub undone : ShortMade s.undone
   pub came : (rows ≡ []) ⊎ (s.course.progress.opened ≡ true)
   pub first : s.course.progress.opened ≡ true → s.is_first ≡ false
 
@@ -129,6 +129,7 @@ record_next s is fields said e = (
     held = held_more s is.rows fields said is.runs e is.held;
     sound = sound_behind s.course fields said is.sound e;
     made = made_behind_record s.course fields said s.made is.sound e is.made;
+    undone = undone_behind_record s.course.desk said s.undone is.undone;
     came = inr (opened_behind s.course fields said is.sound e);
     first = λ came. refl;
   },
@@ -141,25 +142,48 @@ undo_next : (s : SessionState) (is : IsScripted s) (desk : Option State) (newest
 undo_next s is None newest at made = (is, inl refl)
 undo_next s is (Some st) None at made = (is, inl refl)
 undo_next s is (Some st) (Some m) at made =
-    let change = taking_back m in
-    let fields = change_fields change in
-    let said = Asks (Edit change false) None in
+    let label = label_back s.course.progress.labels m in
+    let fields = back_fields label (taking_back m) in
+    let said = back_said s m in
     let short = newest_short s.made m is.made made in
     let opened : s.course.progress.opened ≡ true = is.sound.desk ∙ ap is_some at in
-    let e : said_at s.course.progress fields ≡ Ok said = change_says s.course.progress change opened (back_short m short) in (
+    let e : said_at s.course.progress fields ≡ Ok said = back_says s.course.progress m opened short is.sound.texts.labels in (
       record {
         rows = is.rows ++ fields ∷ [];
         read = read_more is.rows fields is.read (said_read s.course.progress fields said is.sound.texts e);
-        script_is = ap (λ (t : List ℕ). s.script ++ t) (sym (change_text change)) ∙ script_more s.script is.rows fields is.script_is;
+        script_is = ap (λ (t : List ℕ). s.script ++ t) (sym (back_text label (taking_back m))) ∙ script_more s.script is.rows fields is.script_is;
         runs = runs_more is.rows start s.course fields said is.runs e;
         held = held_more s is.rows fields said is.runs e is.held;
         sound = sound_behind s.course fields said is.sound e;
         made = undone_short s.course st m s.made at is.sound short is.made;
+        undone = reversed_short s.course st m s.undone at is.sound short is.undone;
         came = inr (opened_behind s.course fields said is.sound e);
         first = λ came. is.first opened;
       },
       inr (fields, refl),
     )
+
+-- and after a redo
+exchanged_scripted : (s : SessionState) → IsScripted s → IsScripted (exchanged s)
+exchanged_scripted s is = record {
+  rows = is.rows;
+  read = is.read;
+  script_is = is.script_is;
+  runs = is.runs;
+  held = is.held;
+  sound = is.sound;
+  made = is.undone;
+  undone = is.made;
+  came = is.came;
+  first = is.first;
+}
+
+reversal_next : (reversal : Reversal) (s : SessionState) (is : IsScripted s) → IsNext s is (behind_reversal reversal s)
+unfolding undo_next exchanged_scripted
+reversal_next Undo s is = undo_next s is s.course.desk (newest_of s.made) refl refl
+reversal_next Redo s is =
+    let next = undo_next (exchanged s) (exchanged_scripted s is) s.course.desk (newest_of s.undone) refl refl in
+    (exchanged_scripted (behind_undo (exchanged s)) next.0, next.1)
 
 -- after other lines
 bad_next : (s : SessionState) (is : IsScripted s) → IsNext s is (behind_bad s)
@@ -172,6 +196,7 @@ bad_next s is = (
     held = is.held;
     sound = is.sound;
     made = is.made;
+    undone = is.undone;
     came = is.came;
     first = is.first;
   },
@@ -188,6 +213,7 @@ heading_next s is = (
     held = is.held;
     sound = is.sound;
     made = is.made;
+    undone = is.undone;
     came = is.came;
     first = λ came. refl;
   },
@@ -203,6 +229,7 @@ anew_scripted s is = record {
   held = is.held;
   sound = is.sound;
   made = tt;
+  undone = tt;
   came = is.came;
   first = is.first;
 }
@@ -217,7 +244,7 @@ IsSaid p Nothing = ⊤
 IsSaid p Heading = ⊤
 IsSaid p (Record said line) = (fields : List (List ℕ)) × (said_at p fields ≡ Ok said) × (line ≡ line_of fields)
 IsSaid p (Shown wanted) = ⊤
-IsSaid p Undo = ⊤
+IsSaid p (Reverse reversal) = ⊤
 IsSaid p (Save file) = ⊤
 IsSaid p Help = ⊤
 IsSaid p Quit = ⊤
@@ -233,7 +260,7 @@ record_said p fields (Err fault) e = tt
 
 word_said : (p : Progress) (fields : List (List ℕ)) (asked : Result Asked LineFault) → IsSaid p (heard_word p fields asked)
 word_said p fields (Ok (asks.Shown wanted)) = tt
-word_said p fields (Ok asks.Undo) = tt
+word_said p fields (Ok (asks.Reverse reversal)) = tt
 word_said p fields (Ok asks.Save) = tt
 word_said p fields (Ok asks.Help) = tt
 word_said p fields (Ok asks.Quit) = tt
@@ -278,8 +305,7 @@ goes_next saves s is v Heading g a t w said h = same_next s is (record s { is_fi
 goes_next saves s is v (Record what line) g a t w said h =
     same_next s is (behind_record s what (line_of said.0)) t (h.2 ∙ ap (λ (l : List ℕ). behind_record s what l) said.2) (record_next s is said.0 what said.1)
 goes_next saves s is v (Shown wanted) g a t w said h = same_next s is (behind_showing s h.0) t h.2.2 (showing_next s is h.0)
-goes_next saves s is v Undo g a t w said h =
-    same_next s is (behind_undo_of s s.course.desk (newest_of s.made)) t h.2 (undo_next s is s.course.desk (newest_of s.made) refl refl)
+goes_next saves s is v (Reverse reversal) g a t w said h = same_next s is (behind_reversal reversal s) t h.2 (reversal_next reversal s is)
 goes_next saves s is v (Save file) g a t w said h = saves_next saves s is v file h.0 g a t w h.2
 goes_next saves s is v Help g a t w said h = stays s is t h.2
 goes_next saves s is v Quit g a t w said h = stays s is t h.2
@@ -306,6 +332,7 @@ start_scripted manner = record {
   held = refl;
   sound = sound_start;
   made = tt;
+  undone = tt;
   came = inl refl;
   first = λ came. let bad : false ≡ true = came in cc;
 }

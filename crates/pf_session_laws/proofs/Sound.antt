@@ -27,14 +27,14 @@ use Rattle.pf_scenario.specs.declared.event.Numbered.{Numbered}
 use Rattle.pf_scenario.specs.declared.fault.EditFault.{EditFault}
 use Rattle.pf_script_desk.specs.Asked.{commands_of}
 use Rattle.pf_script.proofs.PlanLemmas.GivenLabels.{all_labels_with}
+use Rattle.pf_script.specs.Plan.Labels.{with_label}
 use Rattle.pf_script.specs.declared.line.Line.{Line}
 use Rattle.pf_script.specs.declared.line.Line.TheVariants.{Edit, Steps}
-use Rattle.pf_session.specs.Made.{event_before, left_behind, made_behind_undo, made_of, new_number, number_made, renumbered, taking_back}
-use Rattle.pf_session.specs.Session.{made_behind_line, made_behind_said, newest_of}
+use Rattle.pf_session.specs.Made.{event_before, left_behind, made_behind_undo, made_of, new_number, number_made, renumbered, reversed_behind, taking_back, undone_behind}
+use Rattle.pf_session.specs.Session.{made_behind_line, made_behind_said, newest_of, undone_behind_line, undone_behind_said}
 use Rattle.pf_session.specs.declared.made.Made.{Made}
 use Rattle.pf_session.specs.declared.made.Made.TheVariants.{Inserted, Altered, Struck}
 use Rattle.pf_script.specs.Plan.Parsing.{said_at}
-use Rattle.pf_script.specs.Plan.Progress.{with_label}
 use Rattle.pf_script.specs.declared.plan.labels.Labelled.{Labelled}
 use Rattle.pf_script.specs.declared.plan.said.Said.{Said}
 use Rattle.pf_script.specs.declared.plan.said.Said.TheVariants.{Settings, Slot, Name, Asks}
@@ -335,3 +335,34 @@ undone_short c st newest made is sound one short =
     let few : st.plan.next ≤ 1048576 = subst (λ (d : Option State). HasNumbering d) is sound.good.desk in
     undo_short newest (number_made (reply_to st (command.Edit (taking_back newest) false))) made
     (number_short st (taking_back newest) false few (back_short newest one)) short
+
+-- what there is to make again after a record
+undone_line : (desk : Option State) (line : Line) (undone : List Made) → ShortMade undone → ShortMade (undone_behind_line desk line undone)
+undone_line None line undone short = short
+undone_line (Some st) (Steps count) undone short = short
+undone_line (Some st) (Edit change strict) undone short = by (number_made (reply_to st (command.Edit change strict)))
+  where
+    by : (number : Option ℕ) → ShortMade (undone_behind number undone)
+    by None = short
+    by (Some number) = tt
+
+pub undone_behind_record : (desk : Option State) (said : Said) (undone : List Made) → ShortMade undone → ShortMade (undone_behind_said desk said undone)
+undone_behind_record desk (Settings s) undone short = short
+undone_behind_record desk (Slot length) undone short = short
+undone_behind_record desk (Name task name) undone short = short
+undone_behind_record desk (Asks line label) undone short = undone_line desk line undone short
+
+-- Use: what can be taken back the other way after a change was taken back.
+reversed : (s : Plan) (m : Made) (number : Option ℕ) (others : List Made) → ShortEvents s.events → IsShortMade m → IsShortNumber number → ShortMade others
+    → ShortMade (reversed_behind s m number others)
+reversed s m None others events one small short = short
+reversed s m (Some number) others events one small short =
+    made_more (left_behind m number others) _ (left_short m number others small short)
+    (made_short (taking_back m) (event_before s (taking_back m)) number (back_short m one) (before_short s (taking_back m) events) small)
+
+pub reversed_short : (c : Course) (st : State) (m : Made) (others : List Made) → c.desk ≡ Some st → IsSound c → IsShortMade m → ShortMade others
+    → ShortMade (reversed_behind st.plan m (number_made (reply_to st (command.Edit (taking_back m) false))) others)
+reversed_short c st m others is sound one short =
+    let few : st.plan.next ≤ 1048576 = subst (λ (d : Option State). HasNumbering d) is sound.good.desk in
+    reversed st.plan m (number_made (reply_to st (command.Edit (taking_back m) false))) others (subst HasShort is sound.events) one
+    (number_short st (taking_back m) false few (back_short m one)) short

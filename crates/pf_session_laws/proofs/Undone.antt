@@ -1,6 +1,6 @@
 -- The record that an undo makes says the change that it makes.
-use Rattle.std.proofs.Common.{◌≡◌, ◌∙◌, ◌^◌, ◌<◌, ℕ, Bool, true, false, List, [], ◌∷◌, ◌++◌, None, Ok, codes, append_assoc, refl, sym, ap, arith}
-use Rattle.std.specs.Prelude.{if◌then◌else◌}
+use Rattle.std.proofs.Common.{◌≡◌, ◌∙◌, ◌^◌, ◌<◌, ℕ, Bool, true, false, List, [], ◌∷◌, ◌++◌, Option, None, Some, Ok, codes, append_assoc, refl, sym, ap, arith}
+use Rattle.std.specs.Prelude.{if◌then◌else◌, is_some, All}
 use Rattle.std.specs.Char.{is_ascii_digit}
 use Rattle.std.specs.Fmt.{decimal}
 use Rattle.std.specs.List.{flat_map}
@@ -9,10 +9,11 @@ use Rattle.std.proofs.lemmas.Bool.Decides.{nat_tests}
 use Rattle.std.proofs.lemmas.Fmt.{digits_decimal}
 use Rattle.std.proofs.lemmas.Str.Parse.{numerals_by_value, tells_all_ascii_digits}
 use Rattle.std.proofs.lemmas.Bool.{and_parts}
+use Rattle.pf_script.proofs.PlanLemmas.GivenLabels.{label_among, label_known}
 use Rattle.pf_script_laws.proofs.ConversionsLemmas.Fields.{early_told, task_told}
 use Rattle.pf_script_laws.proofs.ConversionsLemmas.Numbers.{number_here}
 use Rattle.pf_session_lines.specs.Lines.{line_of}
-use Rattle.pf_vocabulary.specs.Names.Text.{is_letter_first}
+use Rattle.pf_vocabulary.specs.Names.Text.{is_letter_first, is_text}
 use Rattle.pf_vocabulary.specs.declared.names.named.Named.{Named}
 use Rattle.pf_notes.specs.Refusal.{record_text}
 use Rattle.pf_plain_script.specs.Written.{change_fields, event_fields}
@@ -23,8 +24,12 @@ use Rattle.pf_scenario.specs.declared.event.Event.{Event}
 use Rattle.pf_scenario.specs.declared.event.Event.TheVariants.{Join, Leave, Delay, Limit}
 use Rattle.pf_script.specs.Fields.{field, is_word}
 use Rattle.pf_script.specs.declared.line.Line.TheVariants.{Edit}
-use Rattle.pf_session.specs.Made.{change_line}
-use Rattle.pf_script.specs.Plan.Parsing.{alter_at, delay_at, edit_at, event_at, id_at, join_at, leave_at, limit_at, opening_at, record_at, said_at, strike_at}
+use Rattle.pf_session.specs.Made.{back_line, change_line, label_back, taking_back}
+use Rattle.pf_session.specs.declared.made.Made.{Made}
+use Rattle.pf_session.specs.declared.made.Made.TheVariants.{Inserted, Altered, Struck}
+use Rattle.pf_script.specs.Plan.Labels.{label_of_number, number_of_label}
+use Rattle.pf_session_laws.proofs.Sound.{IsShortMade, back_short}
+use Rattle.pf_script.specs.Plan.Parsing.{alter_at, delay_at, edit_at, event_at, given_label_at, id_at, join_at, labelled_again_at, labelled_at, leave_at, limit_at, opening_at, record_at, said_at, strike_at}
 use Rattle.pf_script.specs.declared.plan.fault.Reason.TheVariants.{NoEvent, NoNumber, NoRecord}
 use Rattle.pf_script.specs.declared.plan.labels.Labelled.{Labelled}
 use Rattle.pf_script.specs.declared.plan.said.Said.TheVariants.{Asks}
@@ -162,3 +167,77 @@ change_text (Alter id event) =
     line_text (codes "alter") (decimal id ∷ event_fields event)
     ∙ ap (λ (t : List ℕ). codes "alter," ++ (decimal id ++ t)) (event_behind event ∙ ap (λ (t : List ℕ). codes "," ++ t) (event_text event))
 change_text (Strike id) = line_text (codes "strike") (decimal id ∷ [])
+
+-- the fields of a record that takes a change back, whose event goes by this label
+abbrev pub back_fields : Option (List ℕ) → Change → List (List ℕ)
+back_fields None change = change_fields change
+back_fields (Some label) change = codes "label" ∷ label ∷ codes "again" ∷ change_fields change
+
+-- Use: its text.
+labelled_text : (label word : List ℕ) (xs : List (List ℕ))
+    → line_of (codes "label" ∷ label ∷ codes "again" ∷ word ∷ xs) ≡ codes "label," ++ (label ++ (codes ",again," ++ line_of (word ∷ xs)))
+labelled_text label word xs =
+    line_text (codes "label") (label ∷ codes "again" ∷ word ∷ xs)
+    ∙ ap (λ (t : List ℕ). codes "label," ++ (label ++ (codes ",again," ++ t))) (sym (line_text word xs))
+
+change_labelled : (label : List ℕ) (change : Change)
+    → line_of (codes "label" ∷ label ∷ codes "again" ∷ change_fields change) ≡ codes "label," ++ (label ++ (codes ",again," ++ line_of (change_fields change)))
+change_labelled label (Insert (Join slot task cost period early)) =
+    labelled_text label (codes "join") (decimal slot ∷ decimal task ∷ decimal cost ∷ decimal period ∷ decimal early ∷ [])
+change_labelled label (Insert (Leave slot task)) = labelled_text label (codes "leave") (decimal slot ∷ decimal task ∷ [])
+change_labelled label (Insert (Delay slot task by)) = labelled_text label (codes "delay") (decimal slot ∷ decimal task ∷ decimal by ∷ [])
+change_labelled label (Insert (Limit slot count)) = labelled_text label (codes "limit") (decimal slot ∷ decimal count ∷ [])
+change_labelled label (Alter id event) = labelled_text label (codes "alter") (decimal id ∷ event_fields event)
+change_labelled label (Strike id) = labelled_text label (codes "strike") (decimal id ∷ [])
+
+pub back_text : (label : Option (List ℕ)) (change : Change) → line_of (back_fields label change) ≡ back_line label change
+back_text None change = change_text change
+back_text (Some label) change =
+    change_labelled label change ∙ ap (λ (t : List ℕ). codes "label," ++ (label ++ (codes ",again," ++ t))) (change_text change)
+
+-- an event that comes again by its label
+again_told : (names : List Named) (label : List ℕ) (event : Event) → AreShort event
+    → event_at names NoEvent (codes "label" ∷ label ∷ codes "again" ∷ event_fields event) 3 ≡ Ok event
+unfolding event_at join_at leave_at delay_at limit_at is_word
+again_told names label (Join slot task cost period early) short =
+    let fields = codes "label" ∷ label ∷ codes "again" ∷ event_fields (Join slot task cost period early) in
+    rw (
+      number_here NoNumber fields 4 slot refl short.0,
+      task_told names fields 5 task refl short.1,
+      number_here NoNumber fields 6 cost refl short.2,
+      number_here NoNumber fields 7 period refl short.3,
+      early_told fields 8 early refl refl short.4,
+    ) refl
+again_told names label (Leave slot task) short =
+    let fields = codes "label" ∷ label ∷ codes "again" ∷ event_fields (Leave slot task) in
+    rw (number_here NoNumber fields 4 slot refl short.0, task_told names fields 5 task refl short.1) refl
+again_told names label (Delay slot task by) short =
+    let fields = codes "label" ∷ label ∷ codes "again" ∷ event_fields (Delay slot task by) in
+    rw (number_here NoNumber fields 4 slot refl short.0, task_told names fields 5 task refl short.1, number_here NoNumber fields 6 by refl short.2) refl
+again_told names label (Limit slot count) short =
+    let fields = codes "label" ∷ label ∷ codes "again" ∷ event_fields (Limit slot count) in
+    rw (number_here NoNumber fields 4 slot refl short.0, number_here NoNumber fields 5 count refl short.1) refl
+
+given_told : (labels : List Labelled) (label : List ℕ) (more : List (List ℕ)) → is_text label ≡ true → is_some (number_of_label labels label) ≡ true
+    → given_label_at labels (codes "label" ∷ label ∷ more) 1 ≡ Ok label
+unfolding given_label_at
+given_told labels label more text there = rw (text, there) refl
+
+label_says : (p : Progress) (label : List ℕ) (event : Event) → p.opened ≡ true → AreShort event → is_text label ≡ true → is_some (number_of_label p.labels label) ≡ true
+    → said_at p (codes "label" ∷ label ∷ codes "again" ∷ event_fields event) ≡ Ok (Asks (Edit (Insert event) false) (Some label))
+unfolding record_at edit_at labelled_at labelled_again_at is_word
+label_says p label event opened short text there =
+    rw (opened, given_told p.labels label (codes "again" ∷ event_fields event) text there, again_told p.names label event short) refl
+
+-- Use: the record of a change that takes one back says it.
+pub back_says : (p : Progress) (m : Made) → p.opened ≡ true → IsShortMade m → All (λ l. is_text l.name ≡ true) p.labels
+    → said_at p (back_fields (label_back p.labels m) (taking_back m)) ≡ Ok (Asks (Edit (taking_back m) false) (label_back p.labels m))
+back_says p (Inserted id) opened short texts = change_says p (Strike id) opened (back_short (Inserted id) short)
+back_says p (Altered id was) opened short texts = change_says p (Alter id was) opened (back_short (Altered id was) short)
+back_says p (Struck id was) opened short texts = by (label_of_number p.labels id) refl
+  where
+    by : (label : Option (List ℕ)) → label_of_number p.labels id ≡ label
+        → said_at p (back_fields label (Insert was)) ≡ Ok (Asks (Edit (Insert was) false) label)
+    by None e = change_says p (Insert was) opened (back_short (Struck id was) short)
+    by (Some label) e =
+        label_says p label was opened short.1 (label_among (λ t. is_text t ≡ true) p.labels id label texts e) (label_known p.labels id label e)

@@ -37,7 +37,7 @@ pub record IsSession (s : SessionState) : Type 0 where
   pub behind : IsBehind anything first s
 
 -- the same session begun again: its settings and its desk, the names and the labels stay, and so does its script; what there is to take
--- back and whether a line was bad begin anew, and where there are no settings the heading may come again
+-- back and to make again and whether a line was bad begin anew, and where there are no settings the heading may come again
 abbrev pub again : Manner → SessionState → SessionState
 again manner s = record {
   manner = manner;
@@ -46,6 +46,7 @@ again manner s = record {
   held = s.held;
   script = s.script;
   made = [];
+  undone = [];
   has_bad = false;
 }
 

@@ -22,7 +22,7 @@ use Rattle.pf_session_lines.specs.declared.asked.Asked.TheVariants as asks
 use Rattle.pf_session_lines.specs.declared.fault.LineFault.{LineFault}
 use Rattle.pf_session_lines.specs.declared.fault.LineReason.TheVariants.{NoNumber, NoSettings, NoTask, Outside}
 use Rattle.pf_session_lines.specs.declared.word.Word.{Word}
-use Rattle.pf_session_lines.specs.declared.word.Word.TheVariants.{Shows, Why, Fit, Undo, Save, Help, Quit}
+use Rattle.pf_session_lines.specs.declared.word.Word.TheVariants.{Shows, Why, Fit, Reverse, Save, Help, Quit}
 use Rattle.pf_session_lines.specs.Faults.{◌>>=◌, fault_at, of_length}
 use Rattle.pf_session_lines.specs.Words.{has_range, is_early}
 
@@ -91,7 +91,7 @@ unfoldable pub word_asked : List Named → Word → List (List ℕ) → Result A
 word_asked names (Shows format) fields = format_at format fields >>= λ f. Ok (asks.Shown (wanted.Report f))
 word_asked names Why fields = question_at names fields >>= λ q. Ok (asks.Shown (wanted.Why q))
 word_asked names Fit fields = alone fields (asks.Shown wanted.Fit)
-word_asked names Undo fields = alone fields asks.Undo
+word_asked names (Reverse reversal) fields = alone fields (asks.Reverse reversal)
 word_asked names Save fields = of_length fields 2 2 >>= λ _. Ok asks.Save
 word_asked names Help fields = alone fields asks.Help
 word_asked names Quit fields = alone fields asks.Quit

@@ -17,7 +17,7 @@ use Rattle.pf_session_lines.specs.declared.asked.Asked.TheVariants as asks
 use Rattle.pf_session_lines.specs.declared.fault.LineFault.{LineFault}
 use Rattle.pf_session_lines.specs.declared.hear.TheConstants.{LONGEST_LINE}
 use Rattle.pf_session_lines.specs.declared.heard.Heard.{Heard}
-use Rattle.pf_session_lines.specs.declared.heard.Heard.TheVariants.{Nothing, Heading, Record, Shown, Undo, Save, Help, Quit, Bad}
+use Rattle.pf_session_lines.specs.declared.heard.Heard.TheVariants.{Nothing, Heading, Record, Shown, Reverse, Save, Help, Quit, Bad}
 use Rattle.pf_session_lines.specs.declared.word.Word.{Word}
 
 -- a line with these fields that is bad
@@ -31,7 +31,7 @@ heard_record p fields (Err fault) = bad p fields (record { field = fault.field; 
 
 abbrev pub heard_asked : List (List ℕ) → Asked → Heard
 heard_asked fields (asks.Shown wanted) = Shown wanted
-heard_asked fields asks.Undo = Undo
+heard_asked fields (asks.Reverse reversal) = Reverse reversal
 heard_asked fields asks.Save = Save (field fields 1)
 heard_asked fields asks.Help = Help
 heard_asked fields asks.Quit = Quit

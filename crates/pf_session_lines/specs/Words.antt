@@ -6,13 +6,14 @@ use Rattle.pf_vocabulary.specs.declared.options.format.Format.{Format}
 use Rattle.pf_vocabulary.specs.declared.options.format.Format.TheVariants as format
 use Rattle.pf_script.specs.Fields.{field, is_word}
 use Rattle.pf_session_lines.specs.declared.word.Word.{Word}
-use Rattle.pf_session_lines.specs.declared.word.Word.TheVariants.{Shows, Why, Fit, Undo, Save, Help, Quit}
+use Rattle.pf_session_lines.specs.declared.word.Word.TheVariants.{Shows, Why, Fit, Reverse, Save, Help, Quit}
+use Rattle.pf_session_lines.specs.declared.reversal.Reversal.TheVariants.{Undo, Redo}
 
 -- all words, those of records first
 abbrev pub all_words : List (List ℕ)
 all_words =
     codes "settings" ∷ codes "slot" ∷ codes "name" ∷ codes "join" ∷ codes "leave" ∷ codes "delay" ∷ codes "limit" ∷ codes "label" ∷ codes "alter"
-    ∷ codes "strike" ∷ codes "strict" ∷ codes "step" ∷ codes "why" ∷ codes "fit" ∷ codes "undo" ∷ codes "save" ∷ codes "help" ∷ codes "quit"
+    ∷ codes "strike" ∷ codes "strict" ∷ codes "step" ∷ codes "why" ∷ codes "fit" ∷ codes "undo" ∷ codes "redo" ∷ codes "save" ∷ codes "help" ∷ codes "quit"
     ∷ codes "schedule" ∷ codes "lags" ∷ codes "misses" ∷ codes "denials" ∷ codes "events" ∷ codes "script" ∷ codes "processors" ∷ codes "stats"
     ∷ codes "chart" ∷ codes "svg" ∷ codes "windows" ∷ codes "jobs" ∷ codes "load" ∷ codes "quanta" ∷ codes "report" ∷ codes "full" ∷ codes "trace"
     ∷ codes "html" ∷ codes "c" ∷ []
@@ -34,7 +35,8 @@ unfoldable pub word_at : List (List ℕ) → Option Word
 word_at fields =
     if is_word fields 0 (codes "why") then Some Why
     else if is_word fields 0 (codes "fit") then Some Fit
-    else if is_word fields 0 (codes "undo") then Some Undo
+    else if is_word fields 0 (codes "undo") then Some (Reverse Undo)
+    else if is_word fields 0 (codes "redo") then Some (Reverse Redo)
     else if is_word fields 0 (codes "save") then Some Save
     else if is_word fields 0 (codes "help") then Some Help
     else if is_word fields 0 (codes "quit") then Some Quit

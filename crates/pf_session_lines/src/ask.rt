@@ -36,7 +36,7 @@ fn ask_word(names: &Names, word: Word, fields: &Fields) -> Result<Asked, LineFau
         Word::Shows(format) => Ok(Asked::Shown(Wanted::Report(ask_format(format, fields)?))),
         Word::Why => Ok(Asked::Shown(Wanted::Why(ask_question(names, fields)?))),
         Word::Fit => ask_alone(fields, Asked::Shown(Wanted::Fit)),
-        Word::Undo => ask_alone(fields, Asked::Undo),
+        Word::Reverse(reversal) => ask_alone(fields, Asked::Reverse(reversal)),
         Word::Save => {
             expect_length(fields, 2, 2)?;
             Ok(Asked::Save)

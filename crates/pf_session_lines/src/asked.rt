@@ -1,3 +1,4 @@
+use crate::reversal::Reversal;
 use crate::wanted::Wanted;
 
 /// What a word asks for.
@@ -5,8 +6,8 @@ use crate::wanted::Wanted;
 pub enum Asked {
     /// That this is shown.
     Shown(Wanted),
-    /// That the last change is taken back.
-    Undo,
+    /// That a change is taken back.
+    Reverse(Reversal),
     /// That the script is written to the file that the second field names.
     Save,
     /// That the words are told.

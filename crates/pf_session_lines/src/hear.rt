@@ -153,7 +153,7 @@ fn hear_asked(alloc: Global, fields: &Fields, asked: Asked) -> Result<Heard, All
 {
     match asked {
         Asked::Shown(wanted) => Ok(Heard::Shown(wanted)),
-        Asked::Undo => Ok(Heard::Undo),
+        Asked::Reverse(reversal) => Ok(Heard::Reverse(reversal)),
         Asked::Save => Ok(Heard::Save(Bytes::copy(alloc, fields.field(1))?)),
         Asked::Help => Ok(Heard::Help),
         Asked::Quit => Ok(Heard::Quit),

@@ -1,4 +1,5 @@
 use crate::bytes::Bytes;
+use crate::reversal::Reversal;
 use crate::wanted::Wanted;
 use pf_script::plan::said::Said;
 
@@ -13,8 +14,8 @@ pub enum Heard {
     Record(Said, Bytes),
     /// A word that asks for this to be shown.
     Shown(Wanted),
-    /// The last change is to be taken back.
-    Undo,
+    /// A change is to be taken back.
+    Reverse(Reversal),
     /// The script is to be written to the file of this name.
     Save(Bytes),
     /// The words are to be told.

@@ -9,6 +9,7 @@ pub mod fault;
 pub mod hear;
 pub mod heard;
 pub mod reason;
+pub mod reversal;
 pub mod row_text;
 pub mod showing;
 pub mod wanted;

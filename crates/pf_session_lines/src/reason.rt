@@ -34,6 +34,7 @@ const WORDS: &[&str] = &[
     "why",
     "fit",
     "undo",
+    "redo",
     "save",
     "help",
     "quit",

@@ -2,6 +2,7 @@ ghost use Rattle.std.specs.Prelude.{◌≡◌};
 ghost use Rattle.pf_vocabulary.specs.Options.Formats.{format_named};
 ghost use Rattle.pf_session_lines.specs.Words.{fields_after, first_after, has_range, is_early, word_at};
 
+use crate::reversal::Reversal;
 use pf_script::fields::Fields;
 use pf_vocabulary::options::format::Format;
 
@@ -14,8 +15,8 @@ pub enum Word {
     Why,
     /// `fit`.
     Fit,
-    /// `undo`.
-    Undo,
+    /// `undo` or `redo`.
+    Reverse(Reversal),
     /// `save`.
     Save,
     /// `help`.
@@ -40,7 +41,10 @@ impl Word {
             return Some(Word::Fit);
         }
         if fields.is_word(0, b"undo") {
-            return Some(Word::Undo);
+            return Some(Word::Reverse(Reversal::Undo));
+        }
+        if fields.is_word(0, b"redo") {
+            return Some(Word::Reverse(Reversal::Redo));
         }
         if fields.is_word(0, b"save") {
             return Some(Word::Save);

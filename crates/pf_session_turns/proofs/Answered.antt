@@ -2,7 +2,7 @@
 use Rattle.std.proofs.Common.{◌≡◌, ◌++◌, ℕ, List, Bool, Result, Ok, Err, IfOk, OnErr, inl, inr, refl, subst}
 use Rattle.pf_session.specs.Showings.{Showings}
 use Rattle.pf_session_lines.specs.declared.heard.Heard.{Heard}
-use Rattle.pf_session_lines.specs.declared.heard.Heard.TheVariants.{Nothing, Heading, Record, Shown, Undo, Save, Help, Quit, Bad}
+use Rattle.pf_session_lines.specs.declared.heard.Heard.TheVariants.{Nothing, Heading, Record, Shown, Reverse, Save, Help, Quit, Bad}
 use Rattle.pf_session.specs.Session.{SessionState}
 use Rattle.pf_session_lines.specs.declared.showing.Showing.{Showing}
 use Rattle.pf_session_lines.specs.declared.showing.Showing.TheVariants as showing
@@ -25,7 +25,7 @@ goes_on shows by s v Nothing g a t w h = (h.0, h.1, h.2, refl)
 goes_on shows by s v Heading g a t w h = (h.0, h.1, h.2, refl)
 goes_on shows by s v (Record said line) g a t w h = (h.0, h.1, h.2, refl)
 goes_on shows by s v (Shown wanted) g a t w h = (h.0, h.1, (h.2.0, h.2.1, h.2.2, refl))
-goes_on shows by s v Undo g a t w h = (h.0, h.1, h.2, refl)
+goes_on shows by s v (Reverse reversal) g a t w h = (h.0, h.1, h.2, refl)
 goes_on shows by s v (Save file) g a t w h = (h.0, h.1, saves by s v file h.0 g a t w h.2)
 goes_on shows by s v Help g a t w h = (h.0, h.1, h.2, refl)
 goes_on shows by s v Quit g a t w h = (h.0, h.1, h.2, refl)

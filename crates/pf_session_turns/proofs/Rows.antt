@@ -1,13 +1,17 @@
 -- Rows that are taken, one after another.
-use Rattle.std.proofs.Common.{◌≡◌, ◌+◌, ◌∷◌, ℕ, List, [], ap, subst, sym, Result, Ok, Err}
+use Rattle.std.proofs.Common.{◌≡◌, ◌+◌, ◌∷◌, ℕ, Bool, true, false, List, [], Option, None, Some, codes, refl, ap, subst, sym, Result, Ok, Err}
+use Rattle.std.specs.Prelude.{if◌then◌else◌}
 use Rattle.pf_vocabulary.specs.declared.fault.fault.Fault.{Fault}
 use Rattle.pf_vocabulary.specs.declared.fault.fault.Fault.TheVariants as why
-use Rattle.pf_text.specs.Rows.Rows.{Table}
+use Rattle.pf_text.specs.Rows.Rows.{Row, Table}
 use Rattle.pf_session.specs.Session.{SessionState}
+use Rattle.pf_script.specs.Fields.{is_word}
+use Rattle.pf_script.specs.Told.{FaultTold, told}
+use Rattle.pf_script.specs.Plan.Heading.{heading_fault, is_plan_heading}
 use Rattle.pf_script.specs.Plan.Parsing.{end_fault, said_at}
 use Rattle.pf_script.specs.declared.plan.fault.RecordFault.{RecordFault}
 use Rattle.pf_script.specs.declared.plan.said.Said.{Said}
-use Rattle.pf_session_turns.specs.Opening.{IsOpened, IsTaken, IsTakenOne, behind_rows, ended, next}
+use Rattle.pf_session_turns.specs.Opening.{IsOpened, IsTaken, IsTakenOne, behind_rows, ended, next, opened_plain, opened_plan, opened_rows}
 
 -- Use: one was taken, ..
 pub one_taken : {A : Type 0} (more : SessionState → Result SessionState ℕ) (s t : SessionState) (number : ℕ) (fields : List (List ℕ))
@@ -63,3 +67,19 @@ taken_opened A o s why.Write h = absurd h
 taken_opened A o s why.NoViewer h = absurd h
 taken_opened A o s why.Unread h = absurd h
 taken_opened A o s why.GateShut h = absurd h
+
+-- the line of the first row is told nowhere
+line_apart : (s : SessionState) (row : Row) (line : ℕ) (rest : List Row) (found : Option FaultTold)
+    → opened_plain s (record { line = line; fields = row.fields } ∷ rest) found ≡ opened_plain s (row ∷ rest) found
+line_apart s row line rest None = by (is_word row.fields 0 (codes "pfair"))
+  where
+    by : (b : Bool) → behind_rows s 1 (if b then rest else record { line = line; fields = row.fields } ∷ rest) ≡ behind_rows s 1 (if b then rest else row ∷ rest)
+    by true = refl
+    by false = refl
+line_apart s row line rest (Some fault) = refl
+
+-- Use: it may be left out.
+pub rows_apart : (s : SessionState) (bytes : List ℕ) (row : Row) (line : ℕ) (rest : List Row)
+    → opened_rows s bytes (record { line = line; fields = row.fields } ∷ rest) ≡ opened_rows s bytes (row ∷ rest)
+rows_apart s bytes row line rest =
+    ap (λ o. if is_plan_heading row.fields then opened_plan s (heading_fault row.fields) rest else o) (line_apart s row line rest (told bytes).rest.fault)

@@ -18,16 +18,18 @@ use Rattle.pf_session_lines.specs.declared.asked.Asked.TheVariants as asks
 use Rattle.pf_session_lines.specs.declared.fault.LineFault.{LineFault}
 use Rattle.pf_session_lines.specs.declared.hear.TheConstants.{LONGEST_LINE}
 use Rattle.pf_session_lines.specs.declared.heard.Heard.{Heard}
-use Rattle.pf_session_lines.specs.declared.heard.Heard.TheVariants.{Nothing, Heading, Record, Shown, Undo, Save, Help, Quit, Bad}
+use Rattle.pf_session_lines.specs.declared.heard.Heard.TheVariants.{Nothing, Heading, Record, Shown, Reverse, Save, Help, Quit, Bad}
 use Rattle.pf_session_lines.specs.declared.word.Word.{Word}
 use Rattle.pf_scenario.specs.declared.change.Change.{Change}
 use Rattle.pf_scenario.specs.declared.change.Change.TheVariants.{Insert, Alter, Strike}
-use Rattle.pf_session.specs.Made.{change_line, taking_back}
+use Rattle.pf_session.specs.Made.{back_line, change_line, label_back, taking_back}
 use Rattle.pf_session_turns.specs.Sitters.{answers}
 use Rattle.pf_stream.specs.Dialogue.Scripts.{GrowsTo}
 use Rattle.pf_stream.specs.declared.dialogue.answers.Going.{Going}
 use Rattle.pf_session_turns.specs.Turns.{GoesOn, Saves, behind_showing, heard_in, heard_of, line_in}
-use Rattle.pf_session.specs.Session.{SessionState, behind_undo_of, newest_of}
+use Rattle.pf_session.specs.Session.{SessionState, behind_reversal, behind_undo_of, exchanged, newest_of}
+use Rattle.pf_session_lines.specs.declared.reversal.Reversal.{Reversal}
+use Rattle.pf_session_lines.specs.declared.reversal.Reversal.TheVariants.{Undo, Redo}
 use Rattle.pf_script.specs.Plan.Parsing.{said_at}
 use Rattle.pf_script.specs.declared.plan.fault.RecordFault.{RecordFault}
 use Rattle.pf_script.specs.declared.plan.said.Said.{Said}
@@ -49,13 +51,17 @@ change_ends (Insert event) = (_, refl)
 change_ends (Alter id event) = behind (codes "alter,") _ (behind (decimal id) _ (behind (codes ",") _ (_, refl)))
 change_ends (Strike id) = behind (codes "strike,") _ (decimal id, refl)
 
+back_ends : (label : Option (List ℕ)) (change : Change) → EndsLine (back_line label change)
+back_ends None change = change_ends change
+back_ends (Some label) change = behind (codes "label,") _ (behind label _ (behind (codes ",again,") _ (change_ends change)))
+
 -- what is heard: a record has its line
 abbrev IsLined : Heard → Type 0
 IsLined Nothing = ⊤
 IsLined Heading = ⊤
 IsLined (Record said line) = EndsLine line
 IsLined (Shown wanted) = ⊤
-IsLined Undo = ⊤
+IsLined (Reverse reversal) = ⊤
 IsLined (Save file) = ⊤
 IsLined Help = ⊤
 IsLined Quit = ⊤
@@ -71,7 +77,7 @@ record_lined p fields (Err fault) = tt
 
 word_lined : (p : Progress) (fields : List (List ℕ)) (asked : Result Asked LineFault) → IsLined (heard_word p fields asked)
 word_lined p fields (Ok (asks.Shown wanted)) = tt
-word_lined p fields (Ok asks.Undo) = tt
+word_lined p fields (Ok (asks.Reverse reversal)) = tt
 word_lined p fields (Ok asks.Save) = tt
 word_lined p fields (Ok asks.Help) = tt
 word_lined p fields (Ok asks.Quit) = tt
@@ -113,7 +119,11 @@ undo_grows : (s t : SessionState) (desk : _) (newest : _) → t ≡ behind_undo_
 undo_grows s t None newest is = stays s t (ap (λ q. q.script) is)
 undo_grows s t (Some st) None is = stays s t (ap (λ q. q.script) is)
 undo_grows s t (Some st) (Some newest) is =
-    gets s t (change_line (taking_back newest)) (change_ends (taking_back newest)) (ap (λ q. q.script) is)
+    gets s t _ (back_ends (label_back s.course.progress.labels newest) (taking_back newest)) (ap (λ q. q.script) is)
+
+reversal_grows : (reversal : Reversal) (s t : SessionState) → t ≡ behind_reversal reversal s → GrowsTo s.script t.script
+reversal_grows Undo s t is = undo_grows s t s.course.desk (newest_of s.made) is
+reversal_grows Redo s t is = undo_grows (exchanged s) (exchanged t) s.course.desk (newest_of s.undone) (ap exchanged is)
 
 saves_grows : {S : Type 0} (saves : S → List ℕ → List ℕ → Bool → S → Type 0) (s : SessionState) (v : S) (file : List ℕ) (made : Showing) (g : Going)
     (a : List ℕ) (t : SessionState) (w : S) → Saves saves s v file made g a t w → GrowsTo s.script t.script
@@ -126,7 +136,7 @@ goes_grows shows saves s v Nothing g a t w is h = stays s t (ap (λ q. q.script)
 goes_grows shows saves s v Heading g a t w is h = stays s t (ap (λ q. q.script) h.2)
 goes_grows shows saves s v (Record said line) g a t w is h = gets s t line is (ap (λ q. q.script) h.2)
 goes_grows shows saves s v (Shown wanted) g a t w is h = showing_grows s t h.0 h.2.2
-goes_grows shows saves s v Undo g a t w is h = undo_grows s t s.course.desk (newest_of s.made) h.2
+goes_grows shows saves s v (Reverse reversal) g a t w is h = reversal_grows reversal s t h.2
 goes_grows shows saves s v (Save file) g a t w is h = saves_grows saves s v file h.0 g a t w h.2
 goes_grows shows saves s v Help g a t w is h = stays s t (ap (λ q. q.script) h.2)
 goes_grows shows saves s v Quit g a t w is h = stays s t (ap (λ q. q.script) h.2)

@@ -7,12 +7,12 @@ use Rattle.pf_answers.specs.Telling.{taken_text, told_text}
 use Rattle.pf_session_lines.specs.Heard.{heard}
 use Rattle.pf_session_lines.specs.Words.{help_text}
 use Rattle.pf_session_lines.specs.declared.heard.Heard.{Heard}
-use Rattle.pf_session_lines.specs.declared.heard.Heard.TheVariants.{Nothing, Heading, Record, Shown, Undo, Save, Help, Quit, Bad}
+use Rattle.pf_session_lines.specs.declared.heard.Heard.TheVariants.{Nothing, Heading, Record, Shown, Reverse, Save, Help, Quit, Bad}
 use Rattle.pf_vocabulary.specs.declared.options.format.Format.TheVariants.{Script}
 use Rattle.pf_text.specs.FileName.{file_text}
 use Rattle.pf_session.specs.Amid.{IsAmid}
-use Rattle.pf_session.specs.Answers.{said_answer, undo_answer}
-use Rattle.pf_session.specs.Session.{SessionState, behind_bad, behind_record, behind_undo, newest_of}
+use Rattle.pf_session.specs.Answers.{reversal_answer, said_answer}
+use Rattle.pf_session.specs.Session.{SessionState, behind_bad, behind_record, behind_reversal}
 use Rattle.pf_session_lines.specs.Values.{is_value}
 use Rattle.pf_session.specs.Showings.{Showings}
 use Rattle.pf_session_lines.specs.declared.showing.Showing.{Showing}
@@ -55,8 +55,7 @@ GoesOn shows saves s v Heading g a t w = Goes On (taken_text s.manner.json) (rec
 GoesOn shows saves s v (Record said line) g a t w = Goes On (said_answer s.manner s.course said) (behind_record s said line) v g a t w
 GoesOn shows saves s v (Shown wanted) g a t w =
     (made : Showing) × shows wanted s made × Goes On (showing_answer s.manner wanted made) (behind_showing s made) v g a t w
-GoesOn shows saves s v Undo g a t w =
-    Goes On (undo_answer s.manner s.course.progress.names s.course.desk (newest_of s.made)) (behind_undo s) v g a t w
+GoesOn shows saves s v (Reverse reversal) g a t w = Goes On (reversal_answer reversal s) (behind_reversal reversal s) v g a t w
 GoesOn shows saves s v (Save file) g a t w = (made : Showing) × shows (Report Script) s made × Saves saves s v file made g a t w
 GoesOn shows saves s v Help g a t w = Goes On (shown_text s.manner.json false help_text) s v g a t w
 GoesOn shows saves s v Quit g a t w = Goes Ends [] s v g a t w

@@ -80,7 +80,7 @@ fn take<S: Saver, V: Shows>(
         Heard::Heading => session.take_heading(text)?,
         Heard::Record(said, line) => session.take_record(said, line.as_slice(), text)?,
         Heard::Shown(wanted) => tell_wanted(session, views, &wanted, text)?,
-        Heard::Undo => session.take_undo(text)?,
+        Heard::Reverse(reversal) => session.take_reversal(reversal, text)?,
         Heard::Save(file) => save_script(session, saver, views, file.as_slice(), text)?,
         Heard::Help => tell_help(session, text)?,
         Heard::Quit => return Ok(Going::Ends),

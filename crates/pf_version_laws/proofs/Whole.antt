@@ -8,6 +8,7 @@ use Rattle.pf_vocabulary.specs.declared.names.named.Named.{Named}
 use Rattle.pf_text.specs.Rows.Rows.{Row, rows}
 use Rattle.pf_scenario.specs.declared.change.Change.TheVariants.{Insert, Alter, Strike}
 use Rattle.pf_script.proofs.PlanLemmas.GivenLabels.{all_labels_with}
+use Rattle.pf_script.specs.Plan.Labels.{with_label}
 use Rattle.pf_script.specs.Fields.{is_word}
 use Rattle.pf_script.specs.Parsing.{heading_at, record_at}
 use Rattle.pf_script.specs.Places.{lines_behind, record_lines}
@@ -23,7 +24,6 @@ use Rattle.pf_text.specs.Page.{table_text}
 use Rattle.pf_script.specs.Plan.Heading.{heading_fault, is_plan_heading}
 use Rattle.pf_script.specs.declared.plan.labels.Labelled.{Labelled}
 use Rattle.pf_script.specs.Plan.Parsing.{fault_at, said_at}
-use Rattle.pf_script.specs.Plan.Progress.{with_label}
 use Rattle.pf_script.specs.declared.plan.fault.BadRecord.{BadRecord}
 use Rattle.pf_script.specs.declared.plan.fault.Reason.TheVariants.{NoSettings}
 use Rattle.pf_script.specs.declared.plan.fault.RecordFault.{RecordFault}

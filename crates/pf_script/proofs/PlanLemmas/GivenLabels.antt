@@ -1,10 +1,11 @@
 -- What holds of labels, after one was given.
-use Rattle.std.proofs.Common.{◌≡◌, ℕ, Bool, true, false, List, [], ◌∷◌, map, refl, ap, subst}
-use Rattle.std.specs.Prelude.{◌==◌, if◌then◌else◌, All}
+use Rattle.std.proofs.Common.{◌≡◌, ℕ, Bool, true, false, List, [], ◌∷◌, map, refl, sym, ap, subst, ◌∙◌, true≢false, cond, Some}
+use Rattle.std.specs.Prelude.{◌==◌, if◌then◌else◌, is_some, option_map, find, All}
 use Rattle.std.specs.Str.{bytes_eq}
+use Rattle.std.proofs.lemmas.Slice.Eq.{bytes_eq-Decides}
 use Rattle.std.proofs.lemmas.List.Elements.{All-cons, All-head, All-nil, All-tail}
 use Rattle.pf_script.specs.declared.plan.labels.Labelled.{Labelled}
-use Rattle.pf_script.specs.Plan.Labels.{labels_with, relabelled}
+use Rattle.pf_script.specs.Plan.Labels.{label_of_number, labels_with, number_of_label, relabelled}
 
 -- what holds of a label with its number, and of each label with that number, holds of all
 pub all_labels_with : (P : Labelled → Type 0) (label : List ℕ) (number : ℕ) (labels : List Labelled) → P (record { name = label; number = number })
@@ -46,3 +47,33 @@ same_labels_with label m n (l ∷ ls) (k ∷ ks) h =
         ≡ map (λ (l : Labelled). l.name) (if b then (if d then k else record { name = k.name; number = n }) ∷ ks else k ∷ labels_with label n ks)
     by true c d name rest more = let one = named c l m in let other = named d k n in cc
     by false c d name rest more = cc
+
+-- what holds of all labels holds of the one that means the event of a number
+pub label_among : (P : List ℕ → Type 0) (labels : List Labelled) (id : ℕ) (label : List ℕ) → All (λ l. P l.name) labels
+    → label_of_number labels id ≡ Some label → P label
+label_among P [] id label all e = absurd (cc)
+label_among P (first ∷ labels) id label all e =
+    by (first.number == id) e (λ k. label_among P labels id label (All-tail (λ l. P l.name) first labels all) k)
+  where
+    by : (b : Bool) → option_map (λ l. l.name) (cond b (Some first) (find (λ l. l.number == id) labels)) ≡ Some label
+        → (label_of_number labels id ≡ Some label → P label) → P label
+    by true e more = let same : first.name ≡ label = cc in subst P same (All-head (λ l. P l.name) first labels all)
+    by false e more = more e
+
+-- and that one is known
+pub label_known : (labels : List Labelled) (id : ℕ) (label : List ℕ) → label_of_number labels id ≡ Some label → is_some (number_of_label labels label) ≡ true
+label_known [] id label e = absurd (cc)
+label_known (first ∷ labels) id label e = by (first.number == id) e (λ k. label_known labels id label k)
+  where
+    either : (b : Bool) → is_some (number_of_label labels label) ≡ true → is_some (if b then Some first.number else number_of_label labels label) ≡ true
+    either true known = refl
+    either false known = known
+
+    here : first.name ≡ label → (b : Bool) → bytes_eq first.name label ≡ b → is_some (if b then Some first.number else number_of_label labels label) ≡ true
+    here same true is = refl
+    here same false is = absurd (true≢false (sym ((bytes_eq-Decides first.name label).1 same) ∙ is))
+
+    by : (b : Bool) → option_map (λ l. l.name) (cond b (Some first) (find (λ l. l.number == id) labels)) ≡ Some label
+        → (label_of_number labels id ≡ Some label → is_some (number_of_label labels label) ≡ true) → is_some (number_of_label (first ∷ labels) label) ≡ true
+    by true e more = let same : first.name ≡ label = cc in here same (bytes_eq first.name label) refl
+    by false e more = either (bytes_eq first.name label) (more e)

@@ -1,6 +1,6 @@
 -- Where a label stands among the labels, and what is given to it.
 use Rattle.std.proofs.Common.{◌≡◌, ℕ, zero, suc, ◌+◌, ◌<◌, ◌∙◌, Bool, true, false, true≢false, List, [], ◌∷◌, ◌++◌, Option, None, Some, length, refl, sym, ap, subst, inl, inr, arith}
-use Rattle.std.specs.Prelude.{◌==◌, cond, if◌then◌else◌, is_some, option_map, All, slice_index_or, slice_set}
+use Rattle.std.specs.Prelude.{cond, if◌then◌else◌, option_map, All, slice_index_or, slice_set}
 use Rattle.std.specs.Map.{update}
 use Rattle.std.specs.Str.{bytes_eq}
 use Rattle.std.proofs.lemmas.Bool.{cases_Bool, ne_eqb}

@@ -1,20 +1,14 @@
 -- What came before a record of a plan.
 use Rattle.std.specs.Prelude.{ℕ, true, false, List, [], Option, None, Some}
 use Rattle.pf_vocabulary.specs.Names.Names.{with_name}
-use Rattle.pf_script.specs.declared.plan.labels.Labelled.{Labelled}
 use Rattle.pf_script.specs.declared.plan.said.Said.{Said}
 use Rattle.pf_script.specs.declared.plan.said.Said.TheVariants.{Settings, Slot, Name, Asks}
 use Rattle.pf_script.specs.declared.plan.state.Progress.{Progress}
-use Rattle.pf_script.specs.Plan.Labels.{labels_with}
+use Rattle.pf_script.specs.Plan.Labels.{with_label}
 
 -- the heading alone
 abbrev pub at_heading : Progress
 at_heading = record { opened = false; begun = false; slot = None; names = []; labels = [] }
-
--- a label of an event that was given this number
-abbrev pub with_label : Option (List ℕ) → ℕ → List Labelled → List Labelled
-with_label None number labels = labels
-with_label (Some label) number labels = labels_with label number labels
 
 -- after a record that said this; where it labels an event, that was given this number
 abbrev pub progress_after : Progress → Said → ℕ → Progress

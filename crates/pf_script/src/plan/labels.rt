@@ -37,9 +37,9 @@ impl Model for Labels {
 }
 
 impl Labels {
-    ghost use Rattle.std.specs.Prelude.{◌≡◌, [], ◌∷◌, ◌++◌, None, Some, true, OnOk};
+    ghost use Rattle.std.specs.Prelude.{◌≡◌, [], ◌∷◌, ◌++◌, ◌<◌, ℕ, List, length, option_map, None, Some, true, OnOk};
     ghost use Rattle.pf_vocabulary.specs.Names.Text.{is_text};
-    ghost use Rattle.pf_script.specs.Plan.Labels.{labels_with, number_of_label, place_of_label};
+    ghost use Rattle.pf_script.specs.Plan.Labels.{label_of_number, labels_with, number_of_label, place_of_label, with_label};
 
     /// No labels.
     pub fn new(alloc: Global) -> Self
@@ -87,17 +87,42 @@ impl Labels {
     {
         match self.place_of(name.as_bytes()) {
             Some(place) => {
-                self.go_on(&name, place, number);
+                self.go_on(place, number);
                 Ok(())
             }
             None => self.push(name, number),
         }
     }
 
+    /// The label of the event of a number, where it has one.
+    pub fn of_number(&self, id: u64) -> Option<&Name>
+        ensures { option_map (λ label. label.now) result ≡ label_of_number self.now id }
+    {
+        for labelled in &self.all {
+            if labelled.number == id {
+                return Some(&labelled.name);
+            }
+        }
+        None
+    }
+
+    /// The label of the event of a number, where it has one, goes on to the event of another, but where the number of that is 0.
+    pub fn pass_on(&mut self, id: u64, number: u64)
+        ensures { self.new ≡ with_label (label_of_number self.old id) number self.old }
+    {
+        let Some(label) = self.of_number(id) else {
+            return;
+        };
+        let Some(place) = self.place_of(label.as_bytes()) else {
+            unreachable!()
+        };
+        self.go_on(place, number);
+    }
+
     /// A label, which is at this place, goes on to the event of this number, but where that is 0.
-    fn go_on(&mut self, name: &Name, place: usize, number: u64)
-        requires { place_of_label self.old name.now ≡ Some place }
-        ensures { self.new ≡ labels_with name.now number self.old }
+    fn go_on(&mut self, place: usize, number: u64)
+        requires { place < length self.old }
+        ensures { (label : List ℕ) → place_of_label self.old label ≡ Some place → self.new ≡ labels_with label number self.old }
     {
         if number != 0 {
             self.all[place].number = number;

@@ -1,4 +1,4 @@
-use Rattle.std.proofs.Common.{◌≡◌, ◌∙◌, ◌∷◌, [], Bool, true, false, List, ℕ, None, Some, Option, sym, subst, ap, refl}
+use Rattle.std.proofs.Common.{◌≡◌, ◌∙◌, Bool, true, false, List, ℕ, None, Some, sym, subst, refl}
 use Rattle.std.specs.Prelude.{All, if◌then◌else◌}
 use Rattle.pf_vocabulary.specs.Names.Text.{is_text}
 use Rattle.pf_script.proofs.PlanLemmas.LabelPlaces.{no_text_nowhere}
